@@ -1,0 +1,5 @@
+pub mod Bookings
+pub mod Held
+pub mod View
+pub mod Serving
+pub mod Meant
