@@ -16,6 +16,7 @@ use Rattle.server.specs.declared.block.Block.{Block}
 use Rattle.server.specs.declared.block.Departure.{Departure}
 use Rattle.server.specs.declared.block.Served.{Served}
 use Rattle.server.specs.declared.block.Served.the-variants.{Nothing, Unit as OneUnit, Departed}
+use Rattle.server.specs.declared.rate.Rate.{Rate}
 use Rattle.server.specs.declared.rate.Terms.{Terms}
 use Rattle.server.specs.declared.refusal.Refusal.the-variants.{Ended}
 use Rattle.server.specs.Meaning.{Client, Meaning}
@@ -23,19 +24,30 @@ use Rattle.server.specs.Calls.{SlotAnswer, lengthOk, granted, granting, dueOf, 
 use Rattle.server.specs.Laws.{Ranged}
 use Rattle.server.proofs.Meanings.{at-elim}
 use Rattle.clients.specs.Held.{Held, Kept}
-use Rattle.clients.specs.Serving.{newClient, termsOk, admits, admitted, waits, servedBy, gives, goesOn, slotSays, slotLeaves}
+use Rattle.clients.specs.Serving.{newClient, rateOk, termsOk, admits, admitted, waits, servedBy, gives, goesOn, slotSays, slotLeaves}
 use Rattle.clients.proofs.Clients.{held-new, held-ticked, held-served, held-entered}
 
 -- ## A client comes in
 
-ranged-is : (p q l : ℕ) → (leb 1 p && (leb p q && (leb q 1024 && (leb p l && leb l 4194304)))) ≡ true
-    → (1 ≤ p) × (p ≤ q) × (q ≤ 1024) × (p ≤ l) × (l ≤ 4194304)
-ranged-is p q l e = (grind (arith, tells), grind (arith, tells), grind (arith, tells), grind (arith, tells), grind (arith, tells))
+pub rate-ranged : (x : Rate) → rateOk x ≡ true → (1 ≤ x .p) × (x .p ≤ x .q) × (x .q ≤ 1024)
+rate-ranged x e = by (x .p) (x .q) e
+  where
+    by : (p q : ℕ) → (leb 1 p && (leb p q && leb q 1024)) ≡ true → (1 ≤ p) × (p ≤ q) × (q ≤ 1024)
+    by p q e = (grind (arith, tells), grind (arith, tells), grind (arith, tells))
 
 pub terms-ranged : (x : Terms) → termsOk x ≡ true → Ranged x
 terms-ranged x e =
-    let r = ranged-is (x .rate .p) (x .rate .q) (x .latency) e in
-    record { slow = r .0; rate = r .1; small = r .2; least = r .3; most = r .4 }
+    let a = and-parts (rateOk (x .rate)) (leb (x .rate .p) (x .latency) && leb (x .latency) 4194304) e in
+    let b = and-parts (leb (x .rate .p) (x .latency)) (leb (x .latency) 4194304) (a .1) in
+    let r = rate-ranged (x .rate) (a .0) in
+    record { slow = r .0; rate = r .1; small = r .2; least = leb-true (x .rate .p) (x .latency) (b .0); most = leb-true (x .latency) 4194304 (b .1) }
+
+-- terms of a rate and a latency within their ranges
+pub ranged-terms : (x : Terms) → rateOk (x .rate) ≡ true → x .rate .p ≤ x .latency → x .latency ≤ 4194304 → termsOk x ≡ true
+ranged-terms x r l m =
+    let a : leb (x .rate .p) (x .latency) ≡ true = le-leb (x .rate .p) (x .latency) l in
+    let b : leb (x .latency) 4194304 ≡ true = le-leb (x .latency) 4194304 m in
+    simp (r, a, b)
 
 pub kept-admitted : (m : Meaning) (x : Terms) → Kept m → Kept (admitted m x)
 kept-admitted m x h = by (admits m x) refl
@@ -87,7 +99,7 @@ kept-submitted m c label len h = by (granted m c len) refl
           counted = h .counted;
           each = λ k l. at-elim (Held (m .now)) c k (entered (m .now) label len) (m .client)
             (λ z. held-entered (m .now) label len (m .client k) (g .1) (g .2) (subst (λ (j : ℕ). length (m .client j .waiting) < 8) (sym z) (g .3)) (h .each k l))
-            (h .each k l);
+            (λ _. h .each k l);
         }
     by false e = h
 
@@ -100,7 +112,7 @@ kept-served : (m : Meaning) (c : ℕ) → m .now < 4294967295 → Kept m → Kep
 kept-served m c early h = record {
     eight = h .eight;
     counted = omega (arith, early);
-    each = λ k l. at-elim (Held (m .now + 1)) c k serve (m .client) (λ z. held-served (m .now) (m .client k) (h .each k l)) (held-ticked (m .now) (m .client k) (h .each k l));
+    each = λ k l. at-elim (Held (m .now + 1)) c k serve (m .client) (λ z. held-served (m .now) (m .client k) (h .each k l)) (λ _. held-ticked (m .now) (m .client k) (h .each k l));
   }
 
 kept-on : (m : Meaning) (who : Option ℕ) → m .now < 4294967295 → Kept m → Kept (goesOn m who)

@@ -8,6 +8,7 @@ use Rattle.server.specs.declared.block.Block.{Block}
 use Rattle.server.specs.declared.block.Served.{Served}
 use Rattle.server.specs.declared.block.Served.the-variants.{Nothing}
 use Rattle.server.specs.declared.refusal.Refusal.the-variants.{Ended}
+use Rattle.server.specs.declared.rate.Rate.{Rate}
 use Rattle.server.specs.declared.rate.Terms.{Terms}
 use Rattle.server.specs.Meaning.{Client, Meaning}
 use Rattle.server.specs.Calls.{SlotAnswer, at, gone, ticked, servedTo}
@@ -26,11 +27,13 @@ newClient x = record { terms = x; clock = 0; waiting = [] }
 abbrev pub noClients : Meaning
 noClients = record { count = 0; now = 0; client = λ k. newClient vacant }
 
--- 1 ≤ p ≤ q ≤ 1,024, and a latency from p to 4,194,304
+-- 1 ≤ p ≤ q ≤ 1,024
+abbrev pub rateOk : Rate → Bool
+rateOk x = leb 1 (x .p) && (leb (x .p) (x .q) && leb (x .q) 1024)
+
+-- and a latency from p to 4,194,304
 abbrev pub termsOk : Terms → Bool
-termsOk x =
-    leb 1 (x .rate .p) && (leb (x .rate .p) (x .rate .q) && (leb (x .rate .q) 1024
-    && (leb (x .rate .p) (x .latency) && leb (x .latency) 4194304)))
+termsOk x = rateOk (x .rate) && (leb (x .rate .p) (x .latency) && leb (x .latency) 4194304)
 
 -- whether there is a place for a client of these terms
 abbrev pub admits : Meaning → Terms → Bool

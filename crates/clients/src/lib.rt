@@ -5,6 +5,6 @@ pub mod booking;
 pub mod queue;
 pub mod lanes;
 pub mod table;
+pub mod ticks;
 mod queueing;
-mod ticks;
 mod calls;

@@ -9,12 +9,12 @@ use Rattle.server.specs.Meaning.{Client, Meaning}
 use Rattle.server.specs.Calls.{at}
 
 -- what holds of a client after client c was changed: at c it is owed of the change
-pub at-elim : (P : Client → Type 0) (c k : ℕ) (f : Client → Client) (xs : ℕ → Client) → (k ≡ c → P (f (xs k))) → P (xs k) → P (at c f xs k)
+pub at-elim : (P : Client → Type 0) (c k : ℕ) (f : Client → Client) (xs : ℕ → Client) → (k ≡ c → P (f (xs k))) → (k ≢ c → P (xs k)) → P (at c f xs k)
 at-elim P c k f xs here there = by (eqb k c) refl
   where
     by : (t : Bool) → eqb k c ≡ t → P (cond t (f (xs k)) (xs k))
     by true e = here (eqb-true k c e)
-    by false e = there
+    by false e = there (eqb-false k c e)
 
 pub at-here : (c : ℕ) (f : Client → Client) (xs : ℕ → Client) → at c f xs c ≡ f (xs c)
 at-here c f xs = ap (λ (t : Bool). cond t (f (xs c)) (xs c)) (eq-eqb c c refl)

@@ -1,0 +1,3 @@
+pub mod Windows
+pub mod Pacing
+pub mod Frames
