@@ -21,10 +21,10 @@ use Rattle.server.specs.declared.rate.Terms.{Terms}
 use Rattle.server.specs.declared.refusal.Refusal.the-variants.{Ended}
 use Rattle.server.specs.Meaning.{Client, Meaning}
 use Rattle.server.specs.Calls.{SlotAnswer, lengthOk, granted, granting, dueOf, startAt, submitted, entered, at, gone, serve, ticked, servedTo, Serves, Went, Slotted}
-use Rattle.server.specs.Laws.{Ranged}
+use Rattle.server.specs.Laws.{Ranged, Unused}
 use Rattle.server.proofs.Meanings.{at-elim}
 use Rattle.clients.specs.Held.{Held, Kept}
-use Rattle.clients.specs.Serving.{newClient, rateOk, termsOk, admits, admitted, waits, servedBy, gives, goesOn, slotSays, slotLeaves}
+use Rattle.clients.specs.Serving.{noClients, newClient, rateOk, termsOk, admits, admitted, waits, servedBy, gives, goesOn, slotSays, slotLeaves}
 use Rattle.clients.proofs.Clients.{held-new, held-ticked, held-served, held-entered}
 
 -- ## A client comes in
@@ -49,6 +49,43 @@ ranged-terms x r l m =
     let b : leb (x .latency) 4194304 ≡ true = le-leb (x .latency) 4194304 m in
     simp (r, a, b)
 
+-- the newcomer's place
+pub admitted-elim : (P : ℕ → Client → Type 0) (m : Meaning) (x : Terms) → P (m .count) (newClient x) → ((k : ℕ) → k < m .count → P k (m .client k))
+    → (k : ℕ) → k < admitted m x .count → P k (admitted m x .client k)
+admitted-elim P m x new old k l = by (admits m x) l
+  where
+    by : (d : Bool) → k < cond {A = Meaning} d (record { count = m .count + 1; now = m .now; client = at (m .count) (λ _. newClient x) (m .client) }) m .count
+        → P k (cond {A = Meaning} d (record { count = m .count + 1; now = m .now; client = at (m .count) (λ _. newClient x) (m .client) }) m .client k)
+    by true h = at-elim (P k) (m .count) k (λ _. newClient x) (m .client) (λ e. subst (λ (j : ℕ). P j (newClient x)) (sym e) new) (λ ne. old k (omega (arith, h, ne)))
+    by false h = old k h
+
+pub admitted-now : (m : Meaning) (x : Terms) → admitted m x .now ≡ m .now
+admitted-now m x = by (admits m x)
+  where
+    by : (d : Bool) → cond {A = Meaning} d (record { count = m .count + 1; now = m .now; client = at (m .count) (λ _. newClient x) (m .client) }) m .now ≡ m .now
+    by true = refl
+    by false = refl
+
+pub unused-none : Unused noClients
+unused-none = record { start = refl; clocks = λ k l. absurd (omega arith); empty = λ k l. absurd (omega arith) }
+
+pub unused-admitted : (m : Meaning) (x : Terms) → Unused m → Unused (admitted m x)
+unused-admitted m x h = record {
+    start = admitted-now m x ∙ h .start;
+    clocks = admitted-elim (λ k y. y .clock ≡ 0) m x refl (h .clocks);
+    empty = admitted-elim (λ k y. y .waiting ≡ []) m x refl (h .empty);
+  }
+
+-- a client with a place and terms in range is refused by nothing
+pub admits-full : (m : Meaning) (x : Terms) → termsOk x ≡ true → admits m x ≡ false → 8 ≤ m .count
+admits-full m x ok e =
+    let a : (ltb (m .count) 8 && true) ≡ false = ap (λ (b : Bool). ltb (m .count) 8 && b) (sym ok) ∙ e in
+    by (ltb (m .count) 8) refl a
+  where
+    by : (d : Bool) → ltb (m .count) 8 ≡ d → (d && true) ≡ false → 8 ≤ m .count
+    by true t a = let z : _≡_ {A = ℕ} 0 1 = cc in absurd (omega arith)
+    by false t a = ltb-false (m .count) 8 t
+
 pub kept-admitted : (m : Meaning) (x : Terms) → Kept m → Kept (admitted m x)
 kept-admitted m x h = by (admits m x) refl
   where
@@ -58,15 +95,8 @@ kept-admitted m x h = by (admits m x) refl
         record {
           eight = omega (arith, ltb-true (m .count) 8 (g .0));
           counted = h .counted;
-          each = λ k l. by-place k l (eqb k (m .count)) refl (terms-ranged x (g .1));
+          each = λ k l. at-elim (Held (m .now)) (m .count) k (λ _. newClient x) (m .client) (λ _. held-new (m .now) x (terms-ranged x (g .1))) (λ ne. h .each k (omega (arith, l, ne)));
         }
-      where
-        by-place : (k : ℕ) → k < m .count + 1 → (d : Bool) → eqb k (m .count) ≡ d → Ranged x → Held (m .now) (cond d (newClient x) (m .client k))
-        by-place k l true e r = held-new (m .now) x r
-        by-place k l false e r = h .each k (omega (arith, l, eqb-less k e))
-          where
-            eqb-less : (k : ℕ) → eqb k (m .count) ≡ false → k ≡ m .count → ⊥
-            eqb-less k e z = let t : _≡_ {A = ℕ} 0 1 = grind (arith, tells) in omega arith
     by false e = h
 
 -- ## A block comes in

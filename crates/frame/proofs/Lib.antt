@@ -1,3 +1,4 @@
 pub mod Windows
 pub mod Pacing
 pub mod Frames
+pub mod Bookings

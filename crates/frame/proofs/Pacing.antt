@@ -21,7 +21,7 @@ use Rattle.server.proofs.Meanings.{at-elim}
 use Rattle.clients.specs.Held.{Held, Kept, reach, latencyOf}
 use Rattle.clients.specs.Serving.{newClient, rateOk, termsOk, admits, admitted, waits, servedBy, gives, goesOn, slotLeaves}
 use Rattle.clients.proofs.Clients.{reach-entered, reach-ticked, reach-gone, reach-empty, laws-on-time}
-use Rattle.clients.proofs.Kept.{rate-ranged, ranged-terms}
+use Rattle.clients.proofs.Kept.{rate-ranged, ranged-terms, admitted-elim, admitted-now}
 use Rattle.frame.specs.Frames.{ownerAt, mine, owned, window, theta}
 use Rattle.frame.specs.Paced.{Share, Paced}
 use Rattle.frame.specs.States.{State, carries, reserved}
@@ -135,6 +135,30 @@ module _ (m : Meaning) (os : List (Option ℕ)) (some : 1 ≤ length os) where
         by : (d : Bool) → Paced (cond {A = Meaning} d (goesOn m (servedBy m (ownerAt os (m .now)))) m) os
         by true = on-owner (ownerAt os (m .now)) refl
         by false = h
+
+-- ## A reservation
+
+latency-ranged : (p q θ : ℕ) → 1 ≤ p → p ≤ q → q ≤ 1024 → θ ≤ 256 → (p ≤ latencyOf p q θ) × (latencyOf p q θ ≤ 4194304)
+latency-ranged p q θ slow rate small few =
+    (omega (arith, rate), omega (arith, small, mul-le-mul {n₂ = 1024} {m₂ = 256} (let l : p ≤ 1024 = omega arith in l) few))
+
+module _ (m : Meaning) (os : List (Option ℕ)) (some : 1 ≤ length os) (most : length os ≤ 256) (x : Rate) (ok : rateOk x ≡ true) where
+  abbrev terms : Terms
+  terms = record { rate = x; latency = latencyOf (x .p) (x .q) (theta (m .count) os) }
+
+  pub latency-fits : latencyOf (x .p) (x .q) (theta (m .count) os) ≤ 4194304
+  latency-fits = let r = rate-ranged x ok in latency-ranged (x .p) (x .q) (theta (m .count) os) (r .0) (r .1) (r .2) (omega arith) .1
+
+  pub terms-fit : termsOk terms ≡ true
+  terms-fit = let r = rate-ranged x ok in let l = latency-ranged (x .p) (x .q) (theta (m .count) os) (r .0) (r .1) (r .2) (omega arith) in ranged-terms terms ok (l .0) (l .1)
+
+  pub paced-admitted : x .p * length os ≤ owned (m .count) os * x .q → Paced m os → Paced (admitted m terms) os
+  paced-admitted enough h =
+      let e = admitted-now m terms in
+      λ k l. subst (λ (t : ℕ). Share os t k (admitted m terms .client k)) (sym e)
+        (admitted-elim (Share os (m .now)) m terms (share-new os some (m .now) (m .count) terms (rate-ranged x ok .1) enough refl) h k l)
+
+-- ## Behind a truncation
 
 -- a slot, where what is kept is known behind a truncation
 pub paced-after : (m m′ : Meaning) (os : List (Option ℕ)) → 1 ≤ length os → ∥ Kept m ∥₁ → ∥ Paced m os ∥₁ → m′ ≡ slotLeaves m (ownerAt os (m .now)) → ∥ Paced m′ os ∥₁

@@ -22,7 +22,7 @@ mine-small k (Some c) = by (eqb c k)
     by true = omega arith
     by false = omega arith
 
-owned-small : (k : ℕ) (os : List (Option ℕ)) → owned k os ≤ length os
+pub owned-small : (k : ℕ) (os : List (Option ℕ)) → owned k os ≤ length os
 owned-small k [] = omega arith
 owned-small k (o ∷ os) = omega (arith, mine-small k o, owned-small k os)
 

@@ -1,6 +1,6 @@
 ghost use mathlib.Core.Path.{_≡_};
 ghost use Prim.Native.Nat.{_≤_};
-ghost use lib.ListN.{length as size};
+ghost use lib.ListN.{length as size, take};
 ghost use Rattle.frame.specs.Frames.{ownersIn, ownerAt, mine as mineOf, owned as ownedBy, frameOk, allOk, ownerOk};
 use crate::owners::Frame;
 
@@ -68,4 +68,17 @@ fn is_known(owner: Option<u8>) -> bool
         Some(client) => client < 8,
         None => true,
     }
+}
+
+// A table that begins with these owners.
+pub(crate) fn table_of(owners: &[Option<u8>]) -> [Option<u8>; 256]
+    requires { ⌜ size (now owners) ≤ 256 ⌝ }
+    ensures full { λ r. ⌜ size r ≡ 256 ⌝ }
+    ensures begins { λ r. ⌜ take (size (now (owners .entry))) r ≡ now (owners .entry) ⌝ }
+{
+    let mut table = [None; 256];
+    for (place, owner) in owners.iter().enumerate() {
+        table[place] = *owner;
+    }
+    table
 }

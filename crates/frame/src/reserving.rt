@@ -1,7 +1,9 @@
 ghost use mathlib.Core.Path.{_≡_};
+ghost use Rattle.server.specs.Laws.{Unused};
 ghost use Rattle.frame.specs.States.{bookedIn, stateOf, fresh, frameSays, frameSet, reserveSays, reserved};
 use crate::booking::FrameBooking;
 use crate::looking::in_range;
+use crate::looking::table_of;
 use crate::owners::Frame;
 use crate::server::FrameServer;
 use clients::booking::BookingRefusal;
@@ -30,9 +32,7 @@ impl FrameBooking {
         if !in_range(owners) {
             return Err(BookingRefusal::Range);
         }
-        let mut frame = Frame { length: owners.len(), owners: [None; 256] };
-        frame.owners[0..owners.len()].copy_from_slice(owners);
-        self.frame = frame;
+        self.frame = Frame { length: owners.len(), owners: table_of(owners) };
         Ok(())
     }
 
@@ -58,7 +58,8 @@ impl FrameBooking {
 
     // Opens the booking for service, and uses it up.
     pub fn open(self) -> FrameServer
-        ensures { λ r. ⌜ stateOf r ≡ bookedIn self ⌝ }
+        ensures state { λ r. ⌜ stateOf r ≡ bookedIn self ⌝ }
+        ensures unused { λ r. ⌜ ∥ Unused (stateOf r .clients) ∥₁ ⌝ }
     {
         let FrameBooking { clients, frame } = self;
         FrameServer { clients, frame }
