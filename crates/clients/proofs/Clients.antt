@@ -12,7 +12,8 @@ use Rattle.server.specs.Calls.{served, serve, entered, newBlock, startAt}
 use Rattle.server.specs.Laws.{Each, Shaped, Ranged, ClientLaws}
 use Rattle.clients.specs.Held.{Held, OnTime, reach, latencyOf}
 use Rattle.clients.specs.Serving.{newClient}
-use Rattle.clients.proofs.Rows.{order-push, each-push, left-push, left-small, order-served, shaped-served, left-served, length-served, reach-served, reach-later, reach-idle, reach-push, debts}
+use Rattle.server.proofs.Rows.{order-push, each-push, left-push, left-small, order-served, shaped-served, left-served, length-served}
+use Rattle.clients.proofs.Reach.{reach-served, reach-later, reach-idle, reach-push, debts}
 
 pub held-new : (t : ℕ) (x : Terms) → Ranged x → Held t (newClient x)
 held-new t x h = record { ranged = h; eight = omega arith; shaped = tt; order = omega arith; clocked = omega arith }

@@ -1,5 +1,5 @@
 pub mod Queues
-pub mod Rows
+pub mod Reach
 pub mod Clients
 pub mod Kept
 pub mod Places

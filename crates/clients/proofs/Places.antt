@@ -3,10 +3,10 @@ use mathlib.Core.Path.{_≡_, refl, sym, ap, subst, _∙_}
 use mathlib.Core.Bool.{Bool, true, false, cond, _&&_}
 use mathlib.Core.List.{List, [], _∷_, _++_, map}
 use mathlib.Core.Logic.{_≢_, ∥∥₁-elim, ∥∥₁-map}
-use Prim.Native.Nat.{ℕ, _+_, _*_, _^_, _/_, _≤_, _<_, max}
+use Prim.Native.Nat.{ℕ, _+_, _*_, _^_, _/_, _≤_, _<_, min, max}
 use native.Mathlib.Omega.{arith}
 use native.Mathlib.Bridge.{le-prop}
-use native.Mathlib.Nat.{mul-le-mul}
+use native.Mathlib.Nat.{mul-le-mul, min-eq-left}
 use lib.Dec.{ltb, leb}
 use lib.ListN.{length, length-map, getD, set}
 use lib.Seq.{map-set}
@@ -108,9 +108,6 @@ module _ (t : ℕ) (l : Lanes) (terms8 : length (l .terms) ≡ 8) (clocks8 : len
         let a : p * t ≤ 1024 * 4294967296 = mul-le-mul {n₂ = 1024} {m₂ = 4294967296} (omega (arith, h .ranged .rate, h .ranged .small)) (omega (arith, g .counted)) in
         omega (arith, a, clock-small t (clientIn l c) (g .counted) h))
 
-    pub rate-some : ∥ Kept (viewed t l) ∥₁ → 0 < clientIn l c .terms .rate .p
-    rate-some kept = ∥∥₁-elim kept le-prop (λ g. g .each c known .ranged .slow)
-
     pub start-fits : ∥ Kept (viewed t l) ∥₁ → (start len : ℕ) → start ≡ startAt t (clientIn l c) → len ≤ 16 → start + clientIn l c .terms .rate .q * len < 2 ^ 62
     start-fits kept start len e few =
         let b : clientIn l c .terms .rate .q * len ≤ 1024 * 16 = ∥∥₁-elim kept le-prop (λ g. mul-le-mul {n₂ = 1024} {m₂ = 16} (g .each c known .ranged .small) few) in
@@ -131,8 +128,11 @@ module _ (t : ℕ) (l : Lanes) (terms8 : length (l .terms) ≡ 8) (clocks8 : len
           let t4 : ltb (length (x .waiting)) 8 ≡ true = lt-ltb (length (x .waiting)) 8 (omega (arith, e, room)) in
           simp (t1, t2, t3, t4)
 
-      pub submit-says : (due : ℕ) → due ≡ dueOf (clientIn l c) start → _≡_ {A = DueAnswer} (Ok due) (granting (viewed t l) c len)
-      submit-says due ed =
+      pub submit-says : ∥ Kept (viewed t l) ∥₁ → (due : ℕ) → due ≡ min (start + x .terms .latency) 18446744073709551615 / x .terms .rate .p → _≡_ {A = DueAnswer} (Ok due) (granting (viewed t l) c len)
+      submit-says kept due e′ =
+          let late : x .terms .latency ≤ 4194304 = ∥∥₁-elim kept le-prop (λ g. g .each c known .ranged .most) in
+          let fits : min (start + x .terms .latency) 18446744073709551615 ≡ start + x .terms .latency = min-eq-left (omega (arith, late, es, start-small kept)) in
+          let ed : due ≡ dueOf x start = e′ ∙ ap (λ (k : ℕ). k / x .terms .rate .p) fits in
           let ok : ℕ → DueAnswer = λ k. Ok k in
           ap ok (ed ∙ ap (dueOf x) es) ∙ sym (granting-is (viewed t l) c len grants)
 

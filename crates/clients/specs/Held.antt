@@ -5,11 +5,7 @@ use lib.ListN.{length}
 use Rattle.server.specs.declared.block.Block.{Block}
 use Rattle.server.specs.Meaning.{Client, Meaning}
 use Rattle.server.specs.Laws.{Each, Shaped, Ranged, Clocked}
-
--- starts in order, from tick `from` on: each at least the end of the one before, the clock at least the last end
-abbrev pub InOrder : (q from clock : ℕ) → List Block → Type 0
-InOrder q from clock [] = from ≤ clock
-InOrder q from clock (b ∷ bs) = (from ≤ b .start) × InOrder q (b .start + q * b .length) clock bs
+use Rattle.server.specs.Order.{InOrder}
 
 -- one client at slot t
 pub record Held (t : ℕ) (x : Client) : Type 0 where

@@ -6,14 +6,14 @@ ghost use Rattle.clients.specs.Meant.{meaning};
 use crate::lanes::Lanes;
 use crate::queue::Queue;
 use crate::table::Clients;
-use crate::ticks::due_of;
 use crate::ticks::in_range;
-use crate::ticks::start_at;
 use server::block::Block;
 use server::block::Served;
 use server::rate::Rate;
 use server::rate::Terms;
 use server::refusal::Refusal;
+use server::ticks::due_of;
+use server::ticks::start_at;
 
 const VACANT: Terms = Terms { rate: Rate { p: 0, q: 0 }, latency: 0 };
 
@@ -117,7 +117,7 @@ impl Clients {
         let start = start_at(terms.rate, self.lanes.clocks[place], self.now);
         self.lanes.clocks[place] = start + terms.rate.q as u64 * units as u64;
         self.lanes.queues[place].push(Block { label, length: units, left: units, start });
-        Ok(due_of(terms, start))
+        Ok(due_of(terms.rate, terms.latency, start))
     }
 
     // One slot, which serves the chosen client if it has a waiting block.

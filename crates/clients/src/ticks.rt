@@ -1,25 +1,8 @@
 ghost use mathlib.Core.Path.{_≡_};
-ghost use Prim.Native.Nat.{_+_, _*_, _/_, _<_, _^_, max};
 ghost use Rattle.clients.specs.Held.{latencyOf};
 ghost use Rattle.clients.specs.Serving.{rateOk, termsOk};
 use server::rate::Rate;
 use server::rate::Terms;
-
-// The start of a block that comes at this slot.
-pub(crate) fn start_at(rate: Rate, clock: u64, slot: u32) -> u64
-    ensures { λ r. ⌜ r ≡ max (rate .p * slot) clock ⌝ }
-{
-    (rate.p as u64 * slot as u64).max(clock)
-}
-
-// The slot by which a block of this start has left.
-pub(crate) fn due_of(terms: Terms, start: u64) -> u64
-    requires early { ⌜ start < 2 ^ 62 ⌝ }
-    requires some { ⌜ 0 < terms .rate .p ⌝ }
-    ensures { λ r. ⌜ r ≡ (start + terms .latency) / terms .rate .p ⌝ }
-{
-    (start + terms.latency as u64) / terms.rate.p as u64
-}
 
 // Whether the rate is within its range.
 pub fn rate_in_range(rate: Rate) -> bool

@@ -5,3 +5,4 @@ pub mod block;
 pub mod rate;
 pub mod refusal;
 pub mod server;
+pub mod ticks;
