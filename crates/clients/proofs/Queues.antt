@@ -3,17 +3,16 @@ use mathlib.Core.Path.{_≡_, refl, sym, ap, subst, _∙_}
 use mathlib.Core.Bool.{Bool, true, false, cond}
 use mathlib.Core.List.{List, [], _∷_, _++_}
 use Prim.Native.Nat.{ℕ, zero, suc, _+_, _-_, _<_, _≤_}
-use native.Mathlib.Numerals.{sub-one}
 use native.Mathlib.Omega.{arith}
 use lib.Dec.{leb}
 use lib.ListN.{length, take, drop, getD, set}
-use lib.Seq.{take-append-le}
 use borrow.Author.Tests.{le-leb, lt-leb}
 use Rattle.std.specs.declared.option.Option.the-variants.{Some}
 use Rattle.server.specs.declared.block.Block.{Block}
 use Rattle.server.specs.declared.block.Served.{Served}
 use Rattle.server.specs.declared.block.Served.the-variants.{Unit as OneUnit, Departed}
 use Rattle.server.specs.Calls.{gone, served, oneLess}
+use Rattle.server.proofs.Turned.{turned-take}
 use Rattle.clients.specs.Serving.{frontOf}
 
 pub front-is : (n : ℕ) (bs : List Block) (d : Block) → 0 < n → n ≤ length bs → Some (getD bs 0 d) ≡ frontOf (take n bs)
@@ -46,5 +45,4 @@ module _ (c n : ℕ) (bs : List Block) (d : Block) (some : 0 < n) (few : n ≤ l
       by (suc n) [] some few last = absurd (omega arith)
       by (suc n) (b ∷ bs) some few last =
           let t : leb (b .left) 1 ≡ true = le-leb (b .left) 1 last in
-          let l : n ≤ length bs = omega arith in
-          (simp t, simp t (rw (sub-one, take-append-le n bs (b ∷ []))))
+          (simp t, simp t (turned-take (suc n) (b ∷ bs) some few))

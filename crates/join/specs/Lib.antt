@@ -1,0 +1,5 @@
+pub mod Starts
+pub mod Link
+pub mod Misfits
+pub mod Fit
+pub mod Joint
