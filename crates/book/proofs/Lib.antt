@@ -1,0 +1,4 @@
+pub mod Stretches
+pub mod Agrees
+pub mod Promises
+pub mod Runs

@@ -1,0 +1,47 @@
+use mathlib.Core.Path.{_≡_, sym, ap, subst, _∙_}
+use mathlib.Core.List.{List, [], _∷_, _++_, map}
+use Prim.Native.Nat.{ℕ, _<_}
+use native.Mathlib.Omega.{arith}
+use lib.ListN.{length, take, getD}
+use borrow.Author.Needs.{needs}
+use Rattle.std.proofs.shelf.Lists.{take-more, take-more-set, map-push}
+use Rattle.book.specs.declared.calls.Call.{Call}
+use Rattle.book.specs.declared.calls.Call.the-variants.{Submit}
+use Rattle.book.specs.declared.calls.Event.{Event}
+use Rattle.book.specs.Runs.{callOf, Run}
+use Rattle.book.proofs.Promises.{promised}
+use Rattle.book.proofs.Runs.{run-more}
+use Rattle.book.proofs.driving.drive.Needs as need
+
+pub loop-i-again : need.loop-i-again
+loop-i-again g c =
+    let calls = c .args .calls .now in
+    let events = c .loop-i .events in
+    let i = c .loop-i .i in
+    let e = c .make .result in
+    let a = g .S·Server in
+    let m = a .means (a .state (c .args .server .now)) in
+    let more = take-more-set events i e (omega arith) in
+    (ap (map callOf) more ∙ map-push callOf (take i events) e ∙ ap (λ (cs : List Call). cs ++ (callOf e ∷ [])) (c .loop-i .inv .0) ∙ ap (λ (v : Call). take i calls ++ (v ∷ [])) (c .make .ensures .of) ∙ sym (take-more calls i (Submit (record { client = 0; label = 0; length = 0 })) (omega arith)),
+     λ s.
+      let inv = c .loop-i .inv .1 s in
+      let kept = c .make .ensures .stays (inv .0) in
+      (kept, subst (λ (es : List Event). Run m es (a .means (a .state (c .make .last .server)))) (sym more)
+        (run-more (take i events) m (a .means (a .state (c .loop-i .server))) (a .means (a .state (c .make .last .server))) e (inv .1) (c .make .ensures .takes (inv .0)) (g .S·Server·met .lawful (c .make .last .server) kept))))
+
+pub returns : need.returns
+returns g c =
+    let a = g .S·Server in
+    let m = a .means (a .state (c .args .server .now)) in
+    let m′ = a .means (a .state (c .loop-i .server)) in
+    let n = c .min-count .result in
+    let all : c .loop-i .i ≡ n = search needs in
+    let es = c .loop-i .events in
+    let r : a .sound (c .args .server .now) → Run m (take n es) m′ = λ s. subst (λ (k : ℕ). Run m (take k es) m′) all (c .loop-i .inv .1 s .1) in
+    record {
+      count = c .min-count .ensures;
+      of = subst (λ (k : ℕ). map callOf (take k es) ≡ take k (c .args .calls .now)) all (c .loop-i .inv .0);
+      run = r;
+      stays = λ s. c .loop-i .inv .1 s .0;
+      promised = λ s u. promised m m′ (take n es) u (r s);
+    }

@@ -1,0 +1,12 @@
+use mathlib.Core.Path.{_≡_}
+use mathlib.Core.List.{map}
+use lib.ListN.{take}
+use Rattle.book.specs.Runs.{callOf, Run}
+use Rattle.book.proofs.driving.drive.Given as given
+
+-- the events so far are of the calls so far, and a run of the server
+abbrev pub Inv-loop-i : given.InvT-loop-i
+Inv-loop-i g l =
+    (map callOf (take (l .i) (l .events)) ≡ take (l .i) (l .calls))
+    × (g .S·Server .sound (l .entry .server) → g .S·Server .sound (l .server)
+      × Run (g .S·Server .means (g .S·Server .state (l .entry .server))) (take (l .i) (l .events)) (g .S·Server .means (g .S·Server .state (l .server))))

@@ -1,0 +1,22 @@
+use mathlib.Core.Path.{_≡_, subst}
+use mathlib.Core.List.{List, map}
+use Prim.Native.Nat.{ℕ, min}
+use lib.ListN.{length, take}
+use Rattle.join.specs.Joint.{Joint, meansOf, begun}
+use Rattle.book.specs.Book.{Promised}
+use Rattle.book.specs.Runs.{callOf}
+use Rattle.book.proofs.driving.join_and_drive.Needs as need
+
+pub returns : need.returns
+returns g c =
+    let a = g .A·Server in
+    let b = g .B·Server in
+    let es = c .drive .last .events in
+    let n : c .drive .result ≡ min (length (c .args .calls .now)) (length (c .args .events .now)) = c .drive .ensures .count in
+    record {
+      of = subst (λ (k : ℕ). map callOf (take k es) ≡ take k (c .args .calls .now)) n (c .drive .ensures .of);
+      sound = λ sa sb. c .drive .ensures .stays (c .join-chain .ensures .sound sa sb);
+      promised = λ sa sb.
+        let P : ℕ → Joint (a .State) (b .State) → Type 0 = λ k x. Promised (meansOf (a .means) (b .means) x .count) (λ j. meansOf (a .means) (b .means) x .client j .terms .rate) (λ j. meansOf (a .means) (b .means) x .client j .terms .latency) (take k es) in
+        subst (λ (k : ℕ). P k (begun (a .means) (b .means) (a .state (c .args .first)) (b .state (c .args .second)))) n (subst (P (c .drive .result)) (c .join-chain .ensures .state sa sb) (c .drive .ensures .promised (c .join-chain .ensures .sound sa sb) (c .join-chain .ensures .unused sa sb)));
+    }
