@@ -1,0 +1,5 @@
+mod EachDigit
+mod Reading
+mod LastDigit
+mod Extending
+pub mod TwoWays

@@ -1,0 +1,4 @@
+mod Serials
+mod Packets
+mod PacketReading
+mod PacketWriting

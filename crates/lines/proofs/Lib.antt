@@ -1,0 +1,2 @@
+mod OneMore
+mod EachOwner
