@@ -9,6 +9,7 @@ use crate::shares::Shares;
 use clients::table::Clients;
 
 // A denominator and the clients reserved with it so far: their steps together are within it.
+#[derive(Drop)]
 pub struct CreditBooking {
     pub(crate) clients: Clients,
     pub(crate) table: Shares,

@@ -6,5 +6,5 @@ mod choosing;
 mod earning;
 mod reserving;
 pub mod server;
-mod serving;
+pub mod serving;
 pub mod shares;

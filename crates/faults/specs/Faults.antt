@@ -1,7 +1,6 @@
 -- How a fault is told: its line, its field, its hop and its number, with 0 for what does not apply.
 use Prim.Native.Nat.{ℕ}
-use Rattle.faults.specs.declared.BookingRefusal.the-variants.{Reserved, Rate, Range, Share, Over}
-use Rattle.faults.specs.declared.BookingRefusal.{BookingRefusal}
+use Rattle.clients.specs.Bookings.{numberOf}
 use Rattle.faults.specs.declared.FieldCause.the-variants.{Form, Label}
 use Rattle.faults.specs.declared.FieldCause.{FieldCause}
 use Rattle.faults.specs.declared.LineFault.the-variants.{End, Letter, Fields, Field, Slot, Crowd, Booking}
@@ -15,14 +14,6 @@ abbrev pub causeNumber : FieldCause → ℕ
 causeNumber Form = 16
 causeNumber Label = 17
 
--- the number of a booking's refusal
-abbrev pub bookingNumber : BookingRefusal → ℕ
-bookingNumber Reserved = 5
-bookingNumber Rate = 6
-bookingNumber Range = 7
-bookingNumber Share = 8
-bookingNumber Over = 9
-
 -- the fault of a line, told
 abbrev pub noticeAt : ℕ → LineFault → Notice
 noticeAt n End = record { line = n; field = 0; hop = 0; number = 20 }
@@ -31,7 +22,7 @@ noticeAt n Fields = record { line = n; field = 0; hop = 0; number = 15 }
 noticeAt n (Field f) = record { line = n; field = f .field; hop = 0; number = causeNumber (f .cause) }
 noticeAt n Slot = record { line = n; field = 0; hop = 0; number = 18 }
 noticeAt n Crowd = record { line = n; field = 0; hop = 0; number = 19 }
-noticeAt n (Booking f) = record { line = n; field = 0; hop = f .hop; number = bookingNumber (f .refusal) }
+noticeAt n (Booking f) = record { line = n; field = 0; hop = f .hop; number = numberOf (f .refusal) }
 
 -- the fault of a whole trace, told
 abbrev pub noticeOf : RunFault → Notice

@@ -1,9 +1,10 @@
 // What can be wrong with a trace: each fault holds the lower one whole.
 // A fault is told by its line, its field, its hop and its number, with 0 for what does not apply.
 // A field's and a booking's fault turn into a line's by `?`.
-ghost use Rattle.faults.specs.Faults.{bookingNumber, causeNumber, noticeOf};
+ghost use Rattle.faults.specs.Faults.{causeNumber, noticeOf};
 ghost use Rattle.faults.specs.declared.LineFault.the-variants.{Booking, Field};
 ghost use mathlib.Core.Path.{_≡_};
+use clients::booking::BookingRefusal;
 
 /// What a field can be refused for.
 #[derive(Clone, Copy)]
@@ -19,21 +20,6 @@ pub enum FieldCause {
 pub struct FieldFault {
     pub field: u8,
     pub cause: FieldCause,
-}
-
-/// Why a booking turns something down.
-#[derive(Clone, Copy)]
-pub enum BookingRefusal {
-    /// The capacity is set after a client was reserved.
-    Reserved,
-    /// The rate is outside its range.
-    Rate,
-    /// The capacity or a share is outside its range.
-    Range,
-    /// The share is too small for the rate.
-    Share,
-    /// The shares overrun the capacity, or a ninth client comes.
-    Over,
 }
 
 /// A booking's fault, with its hop.
@@ -104,21 +90,6 @@ impl FieldCause {
         match self {
             FieldCause::Form => 16,
             FieldCause::Label => 17,
-        }
-    }
-}
-
-impl BookingRefusal {
-    /// The refusal's number.
-    pub fn number(self) -> u8
-        ensures { λ r. ⌜ r ≡ bookingNumber self ⌝ }
-    {
-        match self {
-            BookingRefusal::Reserved => 5,
-            BookingRefusal::Rate => 6,
-            BookingRefusal::Range => 7,
-            BookingRefusal::Share => 8,
-            BookingRefusal::Over => 9,
         }
     }
 }

@@ -9,6 +9,7 @@ use crate::owners::Frame;
 use clients::table::Clients;
 
 // A frame and the clients reserved in it so far.
+#[derive(Drop)]
 pub struct FrameBooking {
     pub(crate) clients: Clients,
     pub(crate) frame: Frame,

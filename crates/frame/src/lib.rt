@@ -6,4 +6,4 @@ pub mod booking;
 pub mod server;
 mod looking;
 mod reserving;
-mod serving;
+pub mod serving;

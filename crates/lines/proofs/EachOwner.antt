@@ -6,7 +6,7 @@ use Rattle.std.specs.declared.option.Option.the-variants.{Some, None}
 use Rattle.std.specs.declared.option.Option.{Option}
 use Rattle.lines.specs.Frames.{ownerOf, withOwner, ownersOf, ownersIn}
 use Rattle.lines.specs.Tables.{pushed}
-use Rattle.lines.specs.declared.records.Owner.{Owner}
+use Rattle.lines.specs.Owners.{Owner}
 use lib.Dec.{ltb, leb}
 use lib.ListN.{length, getD, drop, length-append}
 use mathlib.Core.Bool.{true, cond, _&&_}

@@ -10,8 +10,7 @@ use Rattle.reader.specs.Parts.{fieldAt}
 use Rattle.lines.specs.Tables.{listed}
 use Rattle.faults.specs.declared.FieldCause.the-variants.{Form}
 use Rattle.faults.specs.declared.LineFault.{LineFault}
-use Rattle.lines.specs.declared.records.Owner.the-variants.{Client, Nobody}
-use Rattle.lines.specs.declared.records.Owner.{Owner}
+use Rattle.lines.specs.Owners.{Owner}
 use Rattle.lines.specs.declared.table.Table.{Table}
 use lib.Dec.{eqb, leb, ltb}
 use lib.ListN.{length}
@@ -20,7 +19,7 @@ use mathlib.Core.List.{List, [], _∷_}
 
 -- a digit 0 to 7 is a client and a full stop nobody
 abbrev pub ownerOf : ℕ → Option Owner
-ownerOf b = cond (eqb b 46) (Some Nobody) (cond (leb 48 b && leb b 55) (Some (Client (b - 48))) None)
+ownerOf b = cond (eqb b 46) (Some None) (cond (leb 48 b && leb b 55) (Some (Some (b - 48))) None)
 
 -- an owner in front of the others, if all are owners
 abbrev pub withOwner : Option Owner → Option (List Owner) → Option (List Owner)

@@ -1,3 +1,4 @@
+pub mod Owners
 pub mod Tables
 pub mod Lines
 pub mod Frames

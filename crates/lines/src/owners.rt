@@ -16,8 +16,8 @@ fn owner(letter: u8) -> Option<Owner>
     ensures { λ r. ⌜ r ≡ ownerOf letter ⌝ }
 {
     match letter {
-        b'.' => Some(Owner::Nobody),
-        b'0'..=b'7' => Some(Owner::Client(letter - b'0')),
+        b'.' => Some(None),
+        b'0'..=b'7' => Some(Some(letter - b'0')),
         _ => None,
     }
 }
@@ -29,7 +29,7 @@ fn owners(text: &[u8]) -> Option<Table<Owner, 256>>
     if text.is_empty() || text.len() > 256 {
         return None;
     }
-    let mut owners = Table::new(Owner::Nobody);
+    let mut owners = Table::new(None);
     for letter in text {
         match owner(*letter) {
             Some(owner) => {

@@ -9,12 +9,8 @@ pub struct Header {
     pub total: u32,
 }
 
-/// Who owns a slot of the frame.
-#[derive(Clone, Copy)]
-pub enum Owner {
-    Client(u8),
-    Nobody,
-}
+/// Who owns a slot of the frame: a client, or nobody.
+pub type Owner = Option<u8>;
 
 /// A client: its rate of `units` in `slots`, its step and cap of credits, and its quantum in the ring.
 #[derive(Clone, Copy)]

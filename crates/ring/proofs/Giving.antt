@@ -108,72 +108,72 @@ gave φ d (b ∷ bs) some few w s = by-test (leb (b .left) 1)
 
 -- ## A client
 
-module _ (count total φ : ℕ) where
-  pub share-new : (x : Terms) → 16 ≤ φ → φ ≤ 1024 → x .rate .p * total ≤ φ * x .rate .q → x .latency ≡ latencyOf (x .rate .p) (x .rate .q) (theta count total φ)
-      → Share count total φ 0 false (newClient x)
-  share-new x least most enough late = record {
-      least = least;
-      most = most;
-      enough = enough;
-      late = late;
-      behind = tt;
-      outside = λ z. (omega arith, tt);
-      inside = λ z. absurd (clash z);
+pub share-new : (count total φ : ℕ) (x : Terms) → 16 ≤ φ → φ ≤ 1024 → x .rate .p * total ≤ φ * x .rate .q → x .latency ≡ latencyOf (x .rate .p) (x .rate .q) (theta count total φ)
+    → Share count total φ 0 false (newClient x)
+share-new count total φ x least most enough late = record {
+    least = least;
+    most = most;
+    enough = enough;
+    late = late;
+    behind = tt;
+    outside = λ z. (omega arith, tt);
+    inside = λ z. absurd (clash z);
+  }
+
+-- a block comes in: what the client may still give is as before
+module _ {count total φ d : ℕ} {mine : Bool} {x : Client} (h : Share count total φ d mine x) (t label len : ℕ) where
+  pub share-entered : Share count total φ d mine (entered t label len x)
+  share-entered = record {
+      least = h .least;
+      most = h .most;
+      enough = h .enough;
+      late = h .late;
+      behind = behind-push (x .waiting) (newBlock t x label len) refl (h .behind);
+      outside = λ z. (h .outside z .0, each-push (λ b. b .left ≡ b .length) (x .waiting) (newBlock t x label len) (h .outside z .1) refl);
+      inside = λ z.
+        (some-push (x .waiting) (newBlock t x label len),
+         omega (arith, h .inside z .1, left-push (x .waiting) (newBlock t x label len) (h .inside z .0)));
     }
 
-  module _ (t d : ℕ) (x : Client) where
-    -- what it may still give is as before when a block comes in
-    pub allowance-entered : (label len : ℕ) (mine : Bool) → Share count total φ d mine x → allowanceIn mine d (entered t label len x .waiting) ≡ allowanceIn mine d (x .waiting)
-    allowance-entered label len true h = ap (λ (n : ℕ). d + n) (left-push (x .waiting) (newBlock t x label len) (h .inside refl .0))
-    allowance-entered label len false h = refl
+  pub allowance-entered : allowanceIn mine d (entered t label len x .waiting) ≡ allowanceIn mine d (x .waiting)
+  allowance-entered = by-test mine (λ b. allowanceIn b d (entered t label len x .waiting) ≡ allowanceIn b d (x .waiting))
+      (λ e. ap (λ (n : ℕ). d + n) (left-push (x .waiting) (newBlock t x label len) (h .inside e .0)))
+      (λ _. refl)
 
-    pub share-entered : (label len : ℕ) (mine : Bool) → Share count total φ d mine x → Share count total φ d mine (entered t label len x)
-    share-entered label len mine h = record {
-        least = h .least;
-        most = h .most;
-        enough = h .enough;
-        late = h .late;
-        behind = behind-push (x .waiting) (newBlock t x label len) refl (h .behind);
-        outside = λ z. (h .outside z .0, each-push (λ b. b .left ≡ b .length) (x .waiting) (newBlock t x label len) (h .outside z .1) refl);
-        inside = λ z.
-          (some-push (x .waiting) (newBlock t x label len),
-           omega (arith, h .inside z .1, left-push (x .waiting) (newBlock t x label len) (h .inside z .0)));
-      }
+-- its turn opens: it may give its quantum more
+module _ {t count total φ d : ℕ} {x : Client} (held : Held t x) (h : Share count total φ d false x) (some : 0 < length (x .waiting)) where
+  pub allowance-opened : allowanceIn true (d + φ - lengthOf (frontOf (x .waiting))) (x .waiting) ≡ d + φ
+  allowance-opened = let f = front-whole (x .waiting) some (h .outside refl .1) (held .shaped) in omega (arith, f .0, f .1, h .least)
 
-    module _ (held : Held t x) where
-      -- its turn opens: it may give its quantum more
-      pub allowance-opened : Share count total φ d false x → 0 < length (x .waiting) → allowanceIn true (d + φ - lengthOf (frontOf (x .waiting))) (x .waiting) ≡ d + φ
-      allowance-opened h some = let f = front-whole (x .waiting) some (h .outside refl .1) (held .shaped) in omega (arith, f .0, f .1, h .least)
+  pub share-opened : Share count total φ (d + φ - lengthOf (frontOf (x .waiting))) true x
+  share-opened = record {
+      least = h .least;
+      most = h .most;
+      enough = h .enough;
+      late = h .late;
+      behind = h .behind;
+      outside = λ z. absurd (clash (sym z));
+      inside = λ z. (some, omega (arith, allowance-opened, h .outside refl .0));
+    }
 
-      pub share-opened : Share count total φ d false x → 0 < length (x .waiting) → Share count total φ (d + φ - lengthOf (frontOf (x .waiting))) true x
-      share-opened h some = record {
-          least = h .least;
-          most = h .most;
-          enough = h .enough;
-          late = h .late;
-          behind = h .behind;
-          outside = λ z. absurd (clash (sym z));
-          inside = λ z. (some, omega (arith, allowance-opened h some, h .outside refl .0));
-        }
+-- it gives a unit in its open turn: it may give one less, and while it waits just one less
+module _ {t count total φ d : ℕ} {x : Client} (held : Held t x) (h : Share count total φ d true x) where
+  given : Gave φ d (x .waiting) (restOf d (x .waiting)) (served (x .waiting))
+  given = gave φ d (x .waiting) (h .inside refl .0) (h .inside refl .1) (h .behind) (held .shaped)
 
-      -- it gives a unit in its open turn
-      given : Share count total φ d true x → Gave φ d (x .waiting) (restOf d (x .waiting)) (served (x .waiting))
-      given h = gave φ d (x .waiting) (h .inside refl .0) (h .inside refl .1) (h .behind) (held .shaped)
+  pub share-gave : Share count total φ (restOf d (x .waiting) .deficit) (restOf d (x .waiting) .opened) (serve x)
+  share-gave = record {
+      least = h .least;
+      most = h .most;
+      enough = h .enough;
+      late = h .late;
+      behind = given .behind;
+      outside = given .outside;
+      inside = given .inside;
+    }
 
-      pub share-gave : Share count total φ d true x → Share count total φ (restOf d (x .waiting) .deficit) (restOf d (x .waiting) .opened) (serve x)
-      share-gave h = record {
-          least = h .least;
-          most = h .most;
-          enough = h .enough;
-          late = h .late;
-          behind = given h .behind;
-          outside = given h .outside;
-          inside = given h .inside;
-        }
+  pub allowance-less : allowanceIn (restOf d (x .waiting) .opened) (restOf d (x .waiting) .deficit) (served (x .waiting)) + 1 ≤ allowanceIn true d (x .waiting)
+  allowance-less = given .less
 
-      -- it may then give one unit less, and while it waits just one
-      pub allowance-less : Share count total φ d true x → allowanceIn (restOf d (x .waiting) .opened) (restOf d (x .waiting) .deficit) (served (x .waiting)) + 1 ≤ allowanceIn true d (x .waiting)
-      allowance-less h = given h .less
-
-      pub allowance-just : Share count total φ d true x → 0 < length (served (x .waiting)) → allowanceIn true d (x .waiting) ≤ allowanceIn (restOf d (x .waiting) .opened) (restOf d (x .waiting) .deficit) (served (x .waiting)) + 1
-      allowance-just h some = given h .just some
+  pub allowance-just : 0 < length (served (x .waiting)) → allowanceIn true d (x .waiting) ≤ allowanceIn (restOf d (x .waiting) .opened) (restOf d (x .waiting) .deficit) (served (x .waiting)) + 1
+  allowance-just some = given .just some

@@ -140,7 +140,7 @@ module _ (m : Meaning) (r : Ring) (gone gone′ : ℕ → ℕ → Bool) (P : Pac
 
   came-allowance : (k : ℕ) → k < m .count → allowance came r k ≡ allowance m r k
   came-allowance k l = at-elim (λ x. allowanceIn (mine r k) (deficitOf r k) (x .waiting) ≡ allowance m r k) a k (entered (m .now) label len) (m .client)
-      (λ _. allowance-entered (m .count) (r .total) (quantumOf r k) (m .now) (deficitOf r k) (m .client k) label len (mine r k) (P .each k l))
+      (λ _. allowance-entered (P .each k l) (m .now) label len)
       (λ _. refl)
 
   came-reach : (k : ℕ) → reach (m .now) (came .client k) ≡ reach (m .now) (m .client k)
@@ -151,7 +151,7 @@ module _ (m : Meaning) (r : Ring) (gone gone′ : ℕ → ℕ → Bool) (P : Pac
 
   each-came : Shares came r
   each-came k l = at-elim (Share (m .count) (r .total) (quantumOf r k) (deficitOf r k) (mine r k)) a k (entered (m .now) label len) (m .client)
-      (λ _. share-entered (m .count) (r .total) (quantumOf r k) (m .now) (deficitOf r k) (m .client k) label len (mine r k) (P .each k l))
+      (λ _. share-entered (P .each k l) (m .now) label len)
       (λ _. P .each k l)
 
   -- a client that waited before keeps its potential
@@ -233,7 +233,7 @@ module _ (m : Meaning) (r : Ring) (gone gone′ : ℕ → ℕ → Bool) (kept : 
   allowance-here : allowance m opened t ≡ allowance m r t + quantumOf r t
   allowance-here =
       let a : allowance m opened t ≡ allowanceIn true (begun .deficit) (m .client t .waiting) = allowance-is m opened t true (begun .deficit) (m .client t .waiting) (mine-turn opened) here refl in
-      omega (arith, a, allowance-was t, allowance-opened (m .count) (r .total) (quantumOf r t) (m .now) (deficitOf r t) (m .client t) (kept .each t l) (was t l) some)
+      omega (arith, a, allowance-was t, allowance-opened (kept .each t l) (was t l) some)
 
   allowance-there : (k : ℕ) → k ≢ t → allowance m opened k ≡ allowance m r k
   allowance-there k n = allowance-is m opened k false (deficitOf r k) (m .client k .waiting) (mine-off opened k n) (deficit-there r t begun k n) refl ∙ sym (allowance-was k)
@@ -241,7 +241,7 @@ module _ (m : Meaning) (r : Ring) (gone gone′ : ℕ → ℕ → Bool) (kept : 
   each-opened : Shares m opened
   each-opened k i = ⊎-elim
       (λ (e : k ≡ t). subst (λ (j : ℕ). Share (m .count) (r .total) (quantumOf r j) (deficitOf opened j) (mine opened j) (m .client j)) (sym e)
-        (share-is (sym here) (sym (mine-turn opened)) (share-opened (m .count) (r .total) (quantumOf r t) (m .now) (deficitOf r t) (m .client t) (kept .each t l) (was t l) some)))
+        (share-is (sym here) (sym (mine-turn opened)) (share-opened (kept .each t l) (was t l) some)))
       (λ n. share-is (sym (deficit-there r t begun k n)) (sym (mine-off opened k n)) (was k i))
       (cases-eq k t)
 
@@ -253,9 +253,7 @@ module _ (m : Meaning) (r : Ring) (gone gone′ : ℕ → ℕ → Bool) (kept : 
       let n′ : t ≢ c = λ z. n (sym z) in
       let a : others (m .count) c (allowance m opened) + 0 ≤ others (m .count) c (allowance m r) + quantumOf r t =
             others-at (m .count) c (allowance m r) (allowance m opened) t 0 (quantumOf r t) l n′ (omega (arith, allowance-here)) (λ j _ _ o. omega (arith, allowance-there j o)) in
-      subst (λ (own : ℕ). Within (m .client c .terms .rate .p) (quantumOf r c) (r .total - quantumOf r c) (15 * (m .count - 1)) (m .now) (others (m .count) c (allowance m opened)) (reach (m .now) (m .client c)) (others (m .count) c (marked (gone′ c) r)) own)
-        (sym (allowance-there c n))
-        (other-opens (P .bound c i) (quantumOf r t) (omega (arith, a)) (marked-more (m .count) c t (gone c) (gone′ c) r l n′ (fresh c i n w) (seen′ c i n) (grows c i n w)))
+      other-opens (P .bound c i) (quantumOf r t) (omega (arith, a)) (marked-more (m .count) c t (gone c) (gone′ c) r l n′ (fresh c i n w) (seen′ c i n) (grows c i n w)) (omega (arith, allowance-there c n))
 
   pub paced-opened : Paced m opened gone′
   paced-opened = record {
@@ -317,37 +315,39 @@ module _ (m : Meaning) (r : Ring) (gone gone′ : ℕ → ℕ → Bool) (kept : 
   each-gave : Shares after gave
   each-gave k i = at-elim (Share (m .count) (r .total) (quantumOf r k) (deficitOf gave k) (mine gave k)) t k serve (m .client)
       (λ e. subst (λ (j : ℕ). Share (m .count) (r .total) (quantumOf r j) (deficitOf gave j) (mine gave j) (serve (m .client j))) (sym e)
-        (share-is (sym gave-here) (sym (mine-turn gave)) (share-gave (m .count) (r .total) (quantumOf r t) (m .now) (deficitOf r t) (m .client t) (kept .each t l) is-open)))
+        (share-is (sym gave-here) (sym (mine-turn gave)) (share-gave (kept .each t l) is-open)))
       (λ n. share-is (sym (deficit-there r t rest k n)) (sym (mine-off gave k n)) (was-closed k i n))
 
-  abbrev Holds : ℕ → ℕ → Client → Type 0
-  Holds c own x = Within (x .terms .rate .p) (quantumOf r c) (r .total - quantumOf r c) (15 * (m .count - 1)) (m .now + 1) (others (m .count) c (allowance after gave)) (reach (m .now + 1) x) (others (m .count) c (marked (gone′ c) r)) own
+  abbrev Holds : ℕ → Client → Type 0
+  Holds c x =
+      Within (x .terms .rate .p) (quantumOf r c) (r .total - quantumOf r c) (15 * (m .count - 1)) (m .now + 1)
+        (others (m .count) c (allowance after gave)) (reach (m .now + 1) x) (others (m .count) c (marked (gone′ c) r)) (allowance after gave c)
 
-  own-holds : 0 < length (served (m .client t .waiting)) → Holds t (allowance after gave t) (serve (m .client t))
+  own-holds : 0 < length (served (m .client t .waiting)) → Holds t (serve (m .client t))
   own-holds w =
       let x = m .client t in
       let rest-of : (r .total - quantumOf r t) + quantumOf r t ≡ r .total = omega (arith, quanta m r gone fits P t l) in
       own-gives (P .bound t l) (x .terms .rate .q)
         (omega (arith, ap (λ (n : ℕ). x .terms .rate .p * n) rest-of, is-open .enough))
         (gone-none m r gone fits P t l opened refl)
-        (omega (arith, allowance-open, allowance-gave, allowance-just (m .count) (r .total) (quantumOf r t) (m .now) (deficitOf r t) x (kept .each t l) is-open w))
+        (omega (arith, allowance-open, allowance-gave, allowance-just (kept .each t l) is-open w))
         (others-le (m .count) t (allowance after gave) (allowance m r) (λ j _ n. omega (arith, allowance-kept j n)))
         (reach-gone (m .now) x (is-open .inside refl .0) (kept .each t l))
 
-  other-holds : (c : ℕ) → c < m .count → c ≢ t → 0 < length (m .client c .waiting) → Holds c (allowance m r c) (m .client c)
+  other-holds : (c : ℕ) → c < m .count → c ≢ t → 0 < length (m .client c .waiting) → Holds c (m .client c)
   other-holds c i n w =
       let n′ : t ≢ c = λ z. n (sym z) in
       let x = m .client c in
       let a : others (m .count) c (allowance after gave) + 1 ≤ others (m .count) c (allowance m r) + 0 =
             others-at (m .count) c (allowance m r) (allowance after gave) t 1 0 l n′
-              (omega (arith, allowance-open, allowance-gave, allowance-less (m .count) (r .total) (quantumOf r t) (m .now) (deficitOf r t) (m .client t) (kept .each t l) is-open))
+              (omega (arith, allowance-open, allowance-gave, allowance-less (kept .each t l) is-open))
               (λ j _ _ o. omega (arith, allowance-kept j o)) in
-      other-gives (P .bound c i) (omega (arith, a)) (reach-ticked (m .now) x) (marked-all (m .count) c (gone c) (gone′ c) r (grows c i n w))
+      other-gives (P .bound c i) (omega (arith, a)) (reach-ticked (m .now) x) (marked-all (m .count) c (gone c) (gone′ c) r (grows c i n w)) (omega (arith, allowance-kept c n))
 
-  waiting-holds : (c : ℕ) → c < m .count → 0 < length (after .client c .waiting) → Holds c (allowance after gave c) (after .client c)
-  waiting-holds c i = at-elim (λ x. 0 < length (x .waiting) → Holds c (allowance after gave c) x) t c serve (m .client)
-      (λ e. subst (λ (k : ℕ). 0 < length (serve (m .client k) .waiting) → Holds k (allowance after gave k) (serve (m .client k))) (sym e) own-holds)
-      (λ n w. subst (λ (own : ℕ). Holds c own (m .client c)) (sym (allowance-kept c n)) (other-holds c i n w))
+  waiting-holds : (c : ℕ) → c < m .count → 0 < length (after .client c .waiting) → Holds c (after .client c)
+  waiting-holds c i = at-elim (λ x. 0 < length (x .waiting) → Holds c x) t c serve (m .client)
+      (λ e. subst (λ (k : ℕ). 0 < length (serve (m .client k) .waiting) → Holds k (serve (m .client k))) (sym e) own-holds)
+      (λ n w. other-holds c i n w)
 
   pub paced-gave : Paced after gave gone′
   paced-gave = record {

@@ -17,18 +17,20 @@ module _ {p φ r spare t given reached gone own : ℕ} (w : Within p φ r spare 
       record { holds = omega arith }
 
   -- another client gives a unit
-  pub other-gives : {given′ reached′ gone′ : ℕ} → given′ + 1 ≤ given → reached ≤ reached′ → gone ≤ gone′ → Within p φ r spare (t + 1) given′ reached′ gone′ own
-  other-gives {given′} {reached′} {gone′} a b c =
+  pub other-gives : {given′ reached′ gone′ own′ : ℕ} → given′ + 1 ≤ given → reached ≤ reached′ → gone ≤ gone′ → own ≤ own′ → Within p φ r spare (t + 1) given′ reached′ gone′ own′
+  other-gives {given′} {reached′} {gone′} {own′} a b c d =
       let x : (p * φ) * (given′ + 1) ≤ (p * φ) * given = mul-le-mul-left (p * φ) a in
       let y : φ * reached ≤ φ * reached′ = mul-le-mul-left φ b in
       let z : (p * φ) * gone ≤ (p * φ) * gone′ = mul-le-mul-left (p * φ) c in
+      let v : (p * r) * own ≤ (p * r) * own′ = mul-le-mul-left (p * r) d in
       record { holds = omega arith }
 
   -- another client's turn opens: its quantum comes to what it may give, and to what is gone
-  pub other-opens : (quantum : ℕ) {given′ gone′ : ℕ} → given′ ≤ given + quantum → gone + quantum ≤ gone′ → Within p φ r spare t given′ reached gone′ own
-  other-opens quantum {given′} {gone′} a b =
+  pub other-opens : (quantum : ℕ) {given′ gone′ own′ : ℕ} → given′ ≤ given + quantum → gone + quantum ≤ gone′ → own ≤ own′ → Within p φ r spare t given′ reached gone′ own′
+  other-opens quantum {given′} {gone′} {own′} a b c =
       let x : (p * φ) * given′ ≤ (p * φ) * (given + quantum) = mul-le-mul-left (p * φ) a in
       let y : (p * φ) * (gone + quantum) ≤ (p * φ) * gone′ = mul-le-mul-left (p * φ) b in
+      let v : (p * r) * own ≤ (p * r) * own′ = mul-le-mul-left (p * r) c in
       record { holds = omega arith }
 
   -- the client itself gives a unit in its open turn, worth q ticks

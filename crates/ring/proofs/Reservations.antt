@@ -14,6 +14,7 @@ use Rattle.server.specs.declared.rate.Rate.{Rate}
 use Rattle.server.specs.declared.rate.Terms.{Terms}
 use Rattle.server.specs.Meaning.{Client, Meaning}
 use Rattle.server.specs.Calls.{at}
+use Rattle.server.specs.Laws.{Unused}
 use Rattle.clients.specs.Held.{latencyOf}
 use Rattle.clients.specs.View.{vacant}
 use Rattle.clients.specs.Serving.{newClient, noClients, rateOk, termsOk, admits, admitted}
@@ -21,7 +22,7 @@ use Rattle.clients.proofs.Kept.{rate-ranged, ranged-terms}
 use Rattle.ring.specs.declared.shares.Shares.{Shares}
 use Rattle.ring.specs.declared.turns.Ring.{Ring}
 use Rattle.ring.specs.Sums.{sum}
-use Rattle.ring.specs.Shares.{rateIn, quantumIn, quantumOk, carries, Carried, theta, termsOf}
+use Rattle.ring.specs.Shares.{rateIn, quantumIn, quantumOk, carries, Carried, theta, termsIn}
 use Rattle.ring.specs.Turns.{deficitOf}
 use Rattle.ring.specs.Paced.{Share}
 use Rattle.ring.specs.Search.{Sound, goneRound}
@@ -95,50 +96,50 @@ module _ (s : Shares) (few : s .count ≤ 8) (within : sum (s .count) (quantumIn
   rate-carried : (k : ℕ) → k < s .count → rateIn s k .p * s .total ≤ quantumIn s k * rateIn s k .q
   rate-carried k l = leb-true (rateIn s k .p * s .total) (quantumIn s k * rateIn s k .q) (carried k l .2)
 
-  pub latency-most : (k : ℕ) → k < s .count → termsOf (s .count) (s .total) (rateIn s k) (quantumIn s k) .latency ≤ 4194304
+  pub latency-most : (k : ℕ) → k < s .count → termsIn s k .latency ≤ 4194304
   latency-most k l =
       let r = rate-ranged (rateIn s k) (carried k l .0) in
       let q = quantum-ranged k l in
       latency-small (rateIn s k .p) (rateIn s k .q) (quantumIn s k) (s .total) (s .count) (r .1) (r .2) (q .0) (q .1) (rate-carried k l) few
 
   -- so no reserved client is turned away for its latency
-  terms-ok : (k : ℕ) → k < s .count → termsOk (termsOf (s .count) (s .total) (rateIn s k) (quantumIn s k)) ≡ true
+  terms-ok : (k : ℕ) → k < s .count → termsOk (termsIn s k) ≡ true
   terms-ok k l =
       let r = rate-ranged (rateIn s k) (carried k l .0) in
-      ranged-terms (termsOf (s .count) (s .total) (rateIn s k) (quantumIn s k)) (carried k l .0)
+      ranged-terms (termsIn s k) (carried k l .0)
         (omega (arith, r .1)) (latency-most k l)
 
   -- ## Opening
 
   pub none-first : noClients ≡ firstClients s 0
   none-first = let f : (ℕ → Client) → Meaning = λ xs. record { count = 0; now = 0; client = xs } in
-      ap f (fun-ext (λ k. ap (λ (b : Bool). newClient (cond {A = Terms} b (termsOf (s .count) (s .total) (rateIn s k) (quantumIn s k)) vacant)) (sym (le-ltb k 0 (omega arith)))))
+      ap f (fun-ext (λ k. ap (λ (b : Bool). newClient (cond {A = Terms} b (termsIn s k) vacant)) (sym (le-ltb k 0 (omega arith)))))
 
-  pub next-first : (n : ℕ) → n < s .count → admitted (firstClients s n) (termsOf (s .count) (s .total) (rateIn s n) (quantumIn s n)) ≡ firstClients s (n + 1)
+  pub next-first : (n : ℕ) → n < s .count → admitted (firstClients s n) (termsIn s n) ≡ firstClients s (n + 1)
   next-first n l =
       let f : (ℕ → Client) → Meaning = λ xs. record { count = n + 1; now = 0; client = xs } in
-      let y = termsOf (s .count) (s .total) (rateIn s n) (quantumIn s n) in
-      let room : admits (firstClients s n) (termsOf (s .count) (s .total) (rateIn s n) (quantumIn s n)) ≡ true =
-            ap (λ (b : Bool). b && termsOk (termsOf (s .count) (s .total) (rateIn s n) (quantumIn s n))) (lt-ltb n 8 (omega (arith, few))) ∙ terms-ok n l in
-      ap (λ (b : Bool). cond {A = Meaning} b (record { count = n + 1; now = 0; client = at n (λ _. newClient (termsOf (s .count) (s .total) (rateIn s n) (quantumIn s n))) (firstClients s n .client) }) (firstClients s n)) room
+      let room : admits (firstClients s n) (termsIn s n) ≡ true =
+            ap (λ (b : Bool). b && termsOk (termsIn s n)) (lt-ltb n 8 (omega (arith, few))) ∙ terms-ok n l in
+      ap (λ (b : Bool). cond {A = Meaning} b (record { count = n + 1; now = 0; client = at n (λ _. newClient (termsIn s n)) (firstClients s n .client) }) (firstClients s n)) room
       ∙ ap f (fun-ext place)
     where
-      term : ℕ → Terms
-      term k = termsOf (s .count) (s .total) (rateIn s k) (quantumIn s k)
-      place : (k : ℕ) → at n (λ _. newClient (termsOf (s .count) (s .total) (rateIn s n) (quantumIn s n))) (firstClients s n .client) k ≡ firstClients s (n + 1) .client k
+      place : (k : ℕ) → at n (λ _. newClient (termsIn s n)) (firstClients s n .client) k ≡ firstClients s (n + 1) .client k
       place k = by-test (eqb k n)
-          (λ b. cond {A = Client} b (newClient (termsOf (s .count) (s .total) (rateIn s n) (quantumIn s n))) (newClient (cond {A = Terms} (ltb k n) (termsOf (s .count) (s .total) (rateIn s k) (quantumIn s k)) vacant))
-            ≡ newClient (cond {A = Terms} (ltb k (n + 1)) (termsOf (s .count) (s .total) (rateIn s k) (quantumIn s k)) vacant))
+          (λ b. cond {A = Client} b (newClient (termsIn s n)) (newClient (cond {A = Terms} (ltb k n) (termsIn s k) vacant))
+            ≡ newClient (cond {A = Terms} (ltb k (n + 1)) (termsIn s k) vacant))
           (λ e.
             let z = eqb-true k n e in
-            ap (λ (j : ℕ). newClient (termsOf (s .count) (s .total) (rateIn s j) (quantumIn s j))) (sym z)
-            ∙ ap (λ (b : Bool). newClient (cond {A = Terms} b (termsOf (s .count) (s .total) (rateIn s k) (quantumIn s k)) vacant)) (sym (lt-ltb k (n + 1) (omega (arith, z)))))
+            ap (λ (j : ℕ). newClient (termsIn s j)) (sym z)
+            ∙ ap (λ (b : Bool). newClient (cond {A = Terms} b (termsIn s k) vacant)) (sym (lt-ltb k (n + 1) (omega (arith, z)))))
           (λ e.
             let n′ = eqb-false k n e in
-            ap (λ (b : Bool). newClient (cond {A = Terms} b (termsOf (s .count) (s .total) (rateIn s k) (quantumIn s k)) vacant)) (same n′))
+            ap (λ (b : Bool). newClient (cond {A = Terms} b (termsIn s k) vacant)) (same n′))
         where
           same : k ≢ n → ltb k n ≡ ltb k (n + 1)
           same n′ = ⊎-elim (λ (l : k < n). lt-ltb k n l ∙ sym (lt-ltb k (n + 1) (omega arith))) (λ g. le-ltb k n g ∙ sym (le-ltb k (n + 1) (omega (arith, g, n′)))) (cases-lt k n)
+
+  pub unused-first : Unused (firstClients s (s .count))
+  unused-first = record { start = refl; clocks = λ k l. refl; empty = λ k l. refl }
 
   -- the ring as it opens
   abbrev m₀ : Meaning
@@ -151,11 +152,11 @@ module _ (s : Shares) (few : s .count ≤ 8) (within : sum (s .count) (quantumIn
   each-first k l =
       let q = quantum-ranged k l in
       let d : 0 ≡ deficitOf r₀ k = sym (getD-replicate 8 k 0 0 (omega (arith, few))) in
-      let y : newClient (termsOf (s .count) (s .total) (rateIn s k) (quantumIn s k)) ≡ m₀ .client k =
-            ap (λ (b : Bool). newClient (cond {A = Terms} b (termsOf (s .count) (s .total) (rateIn s k) (quantumIn s k)) vacant)) (sym (lt-ltb k (s .count) l)) in
+      let y : newClient (termsIn s k) ≡ m₀ .client k =
+            ap (λ (b : Bool). newClient (cond {A = Terms} b (termsIn s k) vacant)) (sym (lt-ltb k (s .count) l)) in
       subst (λ (x : Client). Share (s .count) (s .total) (quantumIn s k) (deficitOf r₀ k) false x) y
-        (subst (λ (n : ℕ). Share (s .count) (s .total) (quantumIn s k) n false (newClient (termsOf (s .count) (s .total) (rateIn s k) (quantumIn s k)))) d
-          (share-new (s .count) (s .total) (quantumIn s k) (termsOf (s .count) (s .total) (rateIn s k) (quantumIn s k)) (q .0) (q .1) (rate-carried k l) refl))
+        (subst (λ (n : ℕ). Share (s .count) (s .total) (quantumIn s k) n false (newClient (termsIn s k))) d
+          (share-new (s .count) (s .total) (quantumIn s k) (termsIn s k) (q .0) (q .1) (rate-carried k l) refl))
 
   pub sound-first : Sound (firstClients s (s .count)) (freshRing s)
   sound-first = record {

@@ -144,8 +144,6 @@ module _ (m : Meaning) (r : Ring) (kept : Kept m) (full : length (r .deficits) �
   round-opened : r .opened ≡ false → r .turn < m .count → Paced m r (goneRound (m .count) (r .turn)) → (u : ℕ) → First (m .count) (waits m) (r .turn) u
       → Paced m (turnTo r u (record { deficit = deficitOf r u + quantumOf r u - lengthOf (frontOf (m .client u .waiting)); opened = true })) (goneRound (m .count) u)
   round-opened closed h P u f =
-      let K = m .count in
-      let t = r .turn in
       let behind : (c : ℕ) → c < m .count → c ≢ u → 0 < length (m .client c .waiting) → ahead (m .count) (r .turn) u < ahead (m .count) (r .turn) c = λ c i n w.
           (let apart = ahead-apart (m .count) (r .turn) h c u i (f .low) n in omega (arith, f .first c i (waits-from m c i w), apart)) in
       paced-opened m r (goneRound (m .count) (r .turn)) (goneRound (m .count) u) kept full fits P u closed (f .low) (waits-parts m u (f .there) .1)
@@ -197,7 +195,6 @@ module _ (m : Meaning) (r : Ring) (kept : Kept m) (full : length (r .deficits) �
   sound-open : r .opened ≡ true → Sound (slotLeaves m (Some (r .turn))) (ringAfter m r (Some (r .turn)))
   sound-open o =
       let l = s .paced .there o in
-      let t = r .turn in
       let w = s .paced .each (r .turn) l .inside (mine-yes r (r .turn) o refl) .0 in
       let x : Sound (servedTo (r .turn) m) (turnTo r (r .turn) (restOf (deficitOf r (r .turn)) (m .client (r .turn) .waiting))) =
             record { within = λ _. l; paced = round-gave m r kept full fits o (s .paced) } in

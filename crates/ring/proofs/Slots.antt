@@ -95,7 +95,6 @@ module _ (m : Meaning) (r : Ring) (s : ∥ Sound m r ∥₁) (c : ℕ) (turn : S
       → rest ≡ restOf (begunWith m r c) (m .client c .waiting)
   rest-is units begun went m′ next rest u b w e n f =
       let early = not-ended m (Some c) went w in
-      let bs = m .client c .waiting in
       let u′ : units ≡ lengthOf (frontOf (m .client c .waiting)) = u ∙ ap lengthOf (front-known m c turn-low) in
       let b′ : begun ≡ begunWith m r c = b ∙ ap (λ (n : ℕ). cond (r .opened) (deficitOf r c) (deficitOf r c + quantumOf r c - n)) u′ in
       let w′ : Ok went ≡ Ok (gone c (m .client c .waiting)) = w ∙ says-served m c early turn-low turn-waits in

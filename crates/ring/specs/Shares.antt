@@ -46,6 +46,6 @@ Carried s k = (rateOk (rateIn s k) ≡ true) × (quantumOk (quantumIn s k) ≡ t
 abbrev pub theta : (count total quantum : ℕ) → ℕ
 theta count total quantum = ((total - quantum) * (quantum + 15) + (quantum - 1)) / quantum + (count - 1) * 15
 
--- a client's terms with that many clients
-abbrev pub termsOf : (count total : ℕ) → Rate → ℕ → Terms
-termsOf count total x quantum = record { rate = x; latency = latencyOf (x .p) (x .q) (theta count total quantum) }
+-- the terms of the client at place k, with the latency that all the reserved clients make
+abbrev pub termsIn : Shares → ℕ → Terms
+termsIn s k = record { rate = rateIn s k; latency = latencyOf (rateIn s k .p) (rateIn s k .q) (theta (s .count) (s .total) (quantumIn s k)) }

@@ -18,7 +18,7 @@ use Rattle.ring.specs.declared.shares.Shares.{Shares}
 use Rattle.ring.specs.declared.turns.Ring.{Ring}
 use Rattle.ring.specs.declared.booking.RingBooking.{RingBooking}
 use Rattle.ring.specs.declared.server.RingServer.{RingServer}
-use Rattle.ring.specs.Shares.{rateIn, quantumIn, totalOk, quantumOk, carries, room, termsOf}
+use Rattle.ring.specs.Shares.{totalOk, quantumOk, carries, room, termsIn}
 use Rattle.ring.specs.Turns.{turnIn, ringAfter}
 
 -- the clients, and the ring with its turn
@@ -71,7 +71,7 @@ reserved s x quantum =
 
 -- the first n of the reserved clients, with the latencies of all
 abbrev pub firstClients : Shares → ℕ → Meaning
-firstClients s n = record { count = n; now = 0; client = λ k. newClient (cond (ltb k n) (termsOf (s .count) (s .total) (rateIn s k) (quantumIn s k)) vacant) }
+firstClients s n = record { count = n; now = 0; client = λ k. newClient (cond (ltb k n) (termsIn s k) vacant) }
 
 -- no deficit, and the turn closed at the last client
 abbrev pub freshRing : Shares → Ring

@@ -6,6 +6,7 @@ ghost use Rattle.ring.specs.Shares.{quantumIn, Carried};
 use crate::shares::Shares;
 
 // A ring total and the clients reserved in it so far.
+#[derive(Drop)]
 pub struct RingBooking {
     pub(crate) shares: Shares,
     ghost full: { (length (shares .rates) ≡ 8) × (length (shares .quanta) ≡ 8) },

@@ -7,4 +7,4 @@ pub mod booking;
 pub mod server;
 mod searching;
 mod reserving;
-mod serving;
+pub mod serving;

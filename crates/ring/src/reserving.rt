@@ -1,6 +1,7 @@
 ghost use mathlib.Core.Path.{_≡_};
 ghost use Prim.Native.Nat.{_≤_};
 ghost use lib.ListN.{length};
+ghost use Rattle.server.specs.Laws.{Unused};
 ghost use Rattle.clients.specs.Meant.{meaning};
 ghost use Rattle.ring.specs.Sums.{sum};
 ghost use Rattle.ring.specs.Shares.{quantumIn, totalOk, quantumOk, theta as thetaOf};
@@ -102,7 +103,8 @@ impl RingBooking {
 
     // Opens the booking for service, and uses it up.
     pub fn open(self) -> RingServer
-        ensures { λ r. ⌜ stateOf r ≡ openedFrom (bookedIn self) ⌝ }
+        ensures state { λ r. ⌜ stateOf r ≡ openedFrom (bookedIn self) ⌝ }
+        ensures unused { λ r. ⌜ ∥ Unused (stateOf r .clients) ∥₁ ⌝ }
     {
         let clients = self.admitted();
         let RingBooking { shares } = self;

@@ -4,7 +4,7 @@ use Rattle.std.specs.declared.result.Result.{Result}
 use Rattle.faults.specs.declared.BookingFault.{BookingFault}
 use Rattle.lines.specs.declared.records.Client.{Client}
 use Rattle.lines.specs.declared.records.Header.{Header}
-use Rattle.lines.specs.declared.records.Owner.{Owner}
+use Rattle.lines.specs.Owners.{Owner}
 use mathlib.Core.List.{List}
 
 -- what each line leaves booked, or the booking's fault

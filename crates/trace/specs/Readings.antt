@@ -18,7 +18,7 @@ use Rattle.trace.specs.declared.reading.Reading.{Reading}
 use Rattle.trace.specs.declared.reading.Trace.{Trace}
 use Rattle.lines.specs.declared.records.Client.{Client}
 use Rattle.lines.specs.declared.records.Header.{Header}
-use Rattle.lines.specs.declared.records.Owner.{Owner}
+use Rattle.lines.specs.Owners.{Owner}
 use Rattle.lines.specs.declared.records.Request.{Request}
 use lib.Dec.{ltb}
 use lib.ListN.{length}

@@ -11,7 +11,6 @@ use faults::LineFaultFromBooking;
 use labels::LabelKind;
 use lines::Client;
 use lines::Header;
-use lines::Owner;
 use lines::Request;
 use lines::Table;
 use lines::client;
@@ -38,7 +37,7 @@ impl Reading {
             label: 0,
             length: 0,
         };
-        let owners = Table::new(Owner::Nobody);
+        let owners = Table::new(None);
         let clients = Table::new(nobody);
         let requests = Table::new(nothing);
         Reading {

@@ -4,7 +4,7 @@ use native.Mathlib.Omega.{arith}
 use Rattle.server.specs.Meaning.{Meaning}
 use Rattle.clients.specs.Held.{latencyOf}
 use Rattle.clients.specs.Serving.{admitted}
-use Rattle.ring.specs.Shares.{rateIn, quantumIn, termsOf}
+use Rattle.ring.specs.Shares.{rateIn, termsIn}
 use Rattle.ring.specs.States.{firstClients}
 use Rattle.ring.proofs.Reservations.{quantum-ranged, latency-most, none-first, next-first}
 use Rattle.ring.proofs.booking.RingBooking.admitted.Needs as need
@@ -25,7 +25,7 @@ cast-latency-of c =
     let b = c .args .self .now in
     let s = b .shares in
     let k = c .loop-place .place in
-    let late : c .latency-of .result ≡ termsOf (s .count) (s .total) (rateIn s k) (quantumIn s k) .latency =
+    let late : c .latency-of .result ≡ termsIn s k .latency =
           c .latency-of .ensures ∙ ap (latencyOf (rateIn s k .p) (rateIn s k .q)) (c .theta-late .ensures) in
     omega (arith, late, latency-most s (b .few) (b .within) (b .carried) k (c .loop-place-test .taken))
 
@@ -34,7 +34,7 @@ loop-place-again c =
     let b = c .args .self .now in
     let s = b .shares in
     let k = c .loop-place .place in
-    let late : c .latency-of .result ≡ termsOf (s .count) (s .total) (rateIn s k) (quantumIn s k) .latency =
+    let late : c .latency-of .result ≡ termsIn s k .latency =
           c .latency-of .ensures ∙ ap (latencyOf (rateIn s k .p) (rateIn s k .q)) (c .theta-late .ensures) in
     c .admit .ensures .leaves
     ∙ ap (λ (m : Meaning). admitted m (record { rate = rateIn s k; latency = c .latency-of .result })) (c .loop-place .inv)
