@@ -6,6 +6,7 @@ use lib.ListN.{length}
 use Rattle.server.specs.Meaning.{Meaning}
 use Rattle.server.specs.Calls.{asked, granting, submitted, Slotted}
 use Rattle.server.specs.Laws.{Lawful}
+use Rattle.server.specs.Machine.{Machine}
 use Rattle.book.specs.declared.calls.Call.{Call}
 use Rattle.book.specs.declared.calls.Call.the-variants.{Submit as DoSubmit, Slot as DoSlot, Ask as DoAsk}
 use Rattle.book.specs.declared.calls.Event.{Event}
@@ -40,3 +41,26 @@ Takes m (Ask q a) m′ = (a ≡ reply m q) × (m′ ≡ m)
 abbrev pub Run : Meaning → List Event → Meaning → Type 0
 Run m [] m′ = Lawful m × (m′ ≡ m)
 Run m (e ∷ es) m″ = Lawful m × ((m′ : Meaning) × Takes m e m′ × Run m′ es m″)
+
+-- ## A named server
+
+module _ {S : Type 0} (means : S → Meaning) (M : Machine S) where
+  -- the event that a call makes, and the state that it leads to
+  abbrev pub happens : S → Call → Event
+  happens s (DoSubmit o) = Submit o (granting (means s) (o .client) (o .length))
+  happens s DoSlot = Slot (M .says s)
+  happens s (DoAsk q) = Ask q (reply (means s) q)
+
+  abbrev pub leads : S → Call → S
+  leads s (DoSubmit o) = M .enter s (o .client) (o .label) (o .length)
+  leads s DoSlot = M .next s
+  leads s (DoAsk q) = s
+
+  -- call after call
+  abbrev pub history : S → List Call → List Event
+  history s [] = []
+  history s (c ∷ cs) = happens s c ∷ history (leads s c) cs
+
+  abbrev pub ending : S → List Call → S
+  ending s [] = s
+  ending s (c ∷ cs) = ending (leads s c) cs

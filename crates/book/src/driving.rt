@@ -1,12 +1,13 @@
 ghost use mathlib.Core.Path.{_≡_};
 ghost use mathlib.Core.List.{map};
 ghost use Prim.Native.Nat.{_+_, min};
-ghost use lib.ListN.{length, take};
+ghost use lib.ListN.{length, take, drop};
 ghost use Rattle.server.specs.Laws.{Unused};
 ghost use Rattle.join.specs.Fit.{fitting, clientsOf};
-ghost use Rattle.join.specs.Joint.{Sound};
+ghost use Rattle.join.specs.Joint.{Sound, stateOf};
 ghost use Rattle.book.specs.Book.{Promised};
-ghost use Rattle.book.specs.Runs.{callOf, reply, Takes, Run};
+ghost use Rattle.book.specs.Chains.{Exactly};
+ghost use Rattle.book.specs.Runs.{callOf, reply, Takes, Run, happens, leads, history, ending};
 use crate::calls::Call;
 use crate::calls::Event;
 use crate::calls::Question;
@@ -34,6 +35,7 @@ pub fn make<S: Server>(server: &mut S, call: Call) -> Event
     ensures of { λ r. ⌜ callOf r ≡ call ⌝ }
     ensures takes { λ r. ⌜ (S·Server .sound (now (server .entry)) → Takes (S·Server .means (S·Server .state (now (server .entry)))) r (S·Server .means (S·Server .state (now (server .exit))))) ⌝ }
     ensures stays { λ _. ⌜ (S·Server .sound (now (server .entry)) → S·Server .sound (now (server .exit))) ⌝ }
+    ensures exactly { λ r. ⌜ (S·Server .sound (now (server .entry)) → S·Server .named → (r ≡ happens (S·Server .means) (S·Server .machine) (S·Server .state (now (server .entry))) call) × (S·Server .state (now (server .exit)) ≡ leads (S·Server .means) (S·Server .machine) (S·Server .state (now (server .entry))) call)) ⌝ }
 {
     match call {
         Call::Submit(order) => Event::Submit(order, server.submit(order.client, order.label, order.length)),
@@ -46,8 +48,10 @@ pub fn make<S: Server>(server: &mut S, call: Call) -> Event
 pub fn drive<S: Server>(server: &mut S, calls: &[Call], events: &mut [Event]) -> usize
     ensures count { λ r. ⌜ r ≡ min (length (now (calls .entry))) (length (now (events .entry))) ⌝ }
     ensures of { λ r. ⌜ map callOf (take r (now (events .exit))) ≡ take r (now (calls .entry)) ⌝ }
+    ensures rest { λ r. ⌜ drop r (now (events .exit)) ≡ drop r (now (events .entry)) ⌝ }
     ensures run { λ r. ⌜ (S·Server .sound (now (server .entry)) → Run (S·Server .means (S·Server .state (now (server .entry)))) (take r (now (events .exit))) (S·Server .means (S·Server .state (now (server .exit))))) ⌝ }
     ensures stays { λ _. ⌜ (S·Server .sound (now (server .entry)) → S·Server .sound (now (server .exit))) ⌝ }
+    ensures exactly { λ r. ⌜ (S·Server .sound (now (server .entry)) → S·Server .named → (take r (now (events .exit)) ≡ history (S·Server .means) (S·Server .machine) (S·Server .state (now (server .entry))) (take r (now (calls .entry)))) × (S·Server .state (now (server .exit)) ≡ ending (S·Server .means) (S·Server .machine) (S·Server .state (now (server .entry))) (take r (now (calls .entry))))) ⌝ }
     ensures promised { λ r. ⌜ (S·Server .sound (now (server .entry)) → Unused (S·Server .means (S·Server .state (now (server .entry)))) → Promised (S·Server .means (S·Server .state (now (server .entry))) .count) (λ k. S·Server .means (S·Server .state (now (server .entry))) .client k .terms .rate) (λ k. S·Server .means (S·Server .state (now (server .entry))) .client k .terms .latency) (take r (now (events .exit)))) ⌝ }
 {
     let count = calls.len().min(events.len());
@@ -61,7 +65,10 @@ pub fn drive<S: Server>(server: &mut S, calls: &[Call], events: &mut [Event]) ->
 // two servers are and whatever the calls, the book of these events shows what is promised.
 pub fn join_and_drive<A: Server, B: Server>(first: A, second: B, calls: &[Call], events: &mut [Event]) -> Chain<A, B>
     ensures of { λ _. ⌜ map callOf (take (min (length (now (calls .entry))) (length (now (events .entry)))) (now (events .exit))) ≡ take (min (length (now (calls .entry))) (length (now (events .entry)))) (now (calls .entry)) ⌝ }
+    ensures rest { λ _. ⌜ drop (min (length (now (calls .entry))) (length (now (events .entry)))) (now (events .exit)) ≡ drop (min (length (now (calls .entry))) (length (now (events .entry)))) (now (events .entry)) ⌝ }
     ensures sound { λ r. ⌜ (A·Server .sound first → B·Server .sound second → Sound A·Server B·Server r) ⌝ }
+    ensures exactly { λ r. ⌜ (A·Server .sound first → B·Server .sound second → A·Server .named → B·Server .named
+        → Exactly A·Server B·Server (A·Server .state first) (B·Server .state second) (take (min (length (now (calls .entry))) (length (now (events .entry)))) (now (calls .entry))) (take (min (length (now (calls .entry))) (length (now (events .entry)))) (now (events .exit))) (stateOf A·Server B·Server r)) ⌝ }
     ensures promised { λ _. ⌜ (A·Server .sound first → B·Server .sound second
         → Promised (clientsOf (fitting (A·Server .means (A·Server .state first)) (B·Server .means (B·Server .state second))) (A·Server .means (A·Server .state first)))
             (λ k. A·Server .means (A·Server .state first) .client k .terms .rate)
