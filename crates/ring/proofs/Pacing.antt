@@ -67,11 +67,11 @@ marked-more k c t g g′ r l n a b h =
 
 -- ## One state
 
-abbrev Shares : Meaning → Ring → Type 0
-Shares m r = (k : ℕ) → k < m .count → Share (m .count) (r .total) (quantumOf r k) (deficitOf r k) (mine r k) (m .client k)
+abbrev EachShare : Meaning → Ring → Type 0
+EachShare m r = (k : ℕ) → k < m .count → Share (m .count) (r .total) (quantumOf r k) (deficitOf r k) (mine r k) (m .client k)
 
 -- the others may give no more than the quanta of those who have had their turn, and 15 units each
-spread : (m : Meaning) (r : Ring) (c : ℕ) (gone : ℕ → Bool) → c < m .count → Shares m r → (r .opened ≡ true → c ≢ r .turn → gone (r .turn) ≡ true)
+spread : (m : Meaning) (r : Ring) (c : ℕ) (gone : ℕ → Bool) → c < m .count → EachShare m r → (r .opened ≡ true → c ≢ r .turn → gone (r .turn) ≡ true)
     → others (m .count) c (allowance m r) ≤ others (m .count) c (marked gone r) + 15 * (m .count - 1)
 spread m r c gone l each seen =
     omega (arith, others-le (m .count) c (allowance m r) (λ j. marked gone r j + 15) one, others-add (m .count) c (marked gone r) (λ j. 15), others-const (m .count) c 15 l)
@@ -88,46 +88,23 @@ spread m r c gone l each seen =
         (each j i)
 
 -- a client with nothing waiting keeps its potential
-pub resting : (m : Meaning) (r : Ring) (c : ℕ) (gone : ℕ → Bool) → c < m .count → Shares m r → (r .opened ≡ true → c ≢ r .turn → gone (r .turn) ≡ true) → length (m .client c .waiting) ≡ 0 → Bounded m r gone c
+pub resting : (m : Meaning) (r : Ring) (c : ℕ) (gone : ℕ → Bool) → c < m .count → EachShare m r → (r .opened ≡ true → c ≢ r .turn → gone (r .turn) ≡ true) → length (m .client c .waiting) ≡ 0 → Bounded m r gone c
 resting m r c gone l each seen none = at-rest (reach-empty (m .now) (m .client c) none) (spread m r c gone l each seen)
 
-module _ (m : Meaning) (r : Ring) (gone : ℕ → ℕ → Bool) (fits : sum (m .count) (quantumOf r) ≤ r .total) (P : Paced m r gone) where
-  module _ (c : ℕ) (l : c < m .count) where
-    quanta : others (m .count) c (quantumOf r) + quantumOf r c ≤ r .total
-    quanta = omega (arith, others-split (m .count) c (quantumOf r) l, fits)
+module _ (m : Meaning) (r : Ring) (gone : ℕ → ℕ → Bool) (fits : sum (m .count) (quantumOf r) ≤ r .total) (P : Paced m r gone) (c : ℕ) (l : c < m .count) where
+  quanta : others (m .count) c (quantumOf r) + quantumOf r c ≤ r .total
+  quanta = omega (arith, others-split (m .count) c (quantumOf r) l, fits)
 
-    gone-few : others (m .count) c (marked (gone c) r) ≤ r .total - quantumOf r c
-    gone-few = omega (arith, quanta, others-le (m .count) c (marked (gone c) r) (quantumOf r)
-        (λ j i n. by-test (gone c j) (λ t. cond t (quantumOf r j) 0 ≤ quantumOf r j) (λ e. omega arith) (λ e. omega arith)))
+  gone-few : others (m .count) c (marked (gone c) r) ≤ r .total - quantumOf r c
+  gone-few = omega (arith, quanta, others-le (m .count) c (marked (gone c) r) (quantumOf r)
+      (λ j i n. by-test (gone c j) (λ t. cond t (quantumOf r j) 0 ≤ quantumOf r j) (λ e. omega arith) (λ e. omega arith)))
 
-    -- while its turn is open nobody else has had one
-    gone-none : r .opened ≡ true → c ≡ r .turn → others (m .count) c (marked (gone c) r) ≡ 0
-    gone-none o e = others-none (m .count) c (marked (gone c) r)
-        (λ j i n.
-          let g : gone c j ≡ false = subst (λ (t : ℕ). gone t j ≡ false) (sym e) (P .own o j i (λ z. n (z ∙ sym e))) in
-          ap (λ (b : Bool). cond b (quantumOf r j) 0) g)
-
-    weight : quantumOf r c * others (m .count) c (marked (gone c) r) + (r .total - quantumOf r c) * allowance m r c ≤ (r .total - quantumOf r c) * (quantumOf r c + 15)
-    weight = by-test (mine r c)
-        (λ b. Share (m .count) (r .total) (quantumOf r c) (deficitOf r c) b (m .client c)
-          → quantumOf r c * others (m .count) c (marked (gone c) r) + (r .total - quantumOf r c) * allowanceIn b (deficitOf r c) (m .client c .waiting) ≤ (r .total - quantumOf r c) * (quantumOf r c + 15))
-        (λ e h. let o = mine-true r c e in
-          weigh-inside (quantumOf r c) (r .total - quantumOf r c) (others (m .count) c (marked (gone c) r)) (allowanceIn true (deficitOf r c) (m .client c .waiting)) (gone-none (o .0) (o .1)) (h .inside refl .1))
-        (λ e h. weigh-outside (quantumOf r c) (r .total - quantumOf r c) (others (m .count) c (marked (gone c) r)) (allowanceIn false (deficitOf r c) (m .client c .waiting)) gone-few (omega (arith, h .outside refl .0)))
-        (P .each c l)
-
-  -- on time with θ, and so within the laws
-  pub paced-lawful : Kept m → Lawful m
-  paced-lawful kept = record {
-      eight = kept .eight;
-      counted = kept .counted;
-      each = λ c l.
-        let x = m .client c in
-        let h = P .each c l in
-        let some : 0 < quantumOf r c = omega (arith, h .least) in
-        laws-on-time (theta (m .count) (r .total) (quantumOf r c)) (m .now) x (kept .each c l) (h .late)
-          (on-time (P .bound c l) (theta (m .count) (r .total) (quantumOf r c)) some (weight c l) (theta-late (m .count) (r .total) (quantumOf r c) some));
-    }
+  -- while its turn is open nobody else has had one
+  gone-none : r .opened ≡ true → c ≡ r .turn → others (m .count) c (marked (gone c) r) ≡ 0
+  gone-none o e = others-none (m .count) c (marked (gone c) r)
+      (λ j i n.
+        let g : gone c j ≡ false = subst (λ (t : ℕ). gone t j ≡ false) (sym e) (P .own o j i (λ z. n (z ∙ sym e))) in
+        ap (λ (b : Bool). cond b (quantumOf r j) 0) g)
 
 -- ## A block comes in
 
@@ -149,7 +126,7 @@ module _ (m : Meaning) (r : Ring) (gone gone′ : ℕ → ℕ → Bool) (P : Pac
   came-rate : (k : ℕ) → came .client k .terms .rate .p ≡ m .client k .terms .rate .p
   came-rate k = at-elim (λ x. x .terms .rate .p ≡ m .client k .terms .rate .p) a k (entered (m .now) label len) (m .client) (λ _. refl) (λ _. refl)
 
-  each-came : Shares came r
+  each-came : EachShare came r
   each-came k l = at-elim (Share (m .count) (r .total) (quantumOf r k) (deficitOf r k) (mine r k)) a k (entered (m .now) label len) (m .client)
       (λ _. share-entered (P .each k l) (m .now) label len)
       (λ _. P .each k l)
@@ -238,7 +215,7 @@ module _ (m : Meaning) (r : Ring) (gone gone′ : ℕ → ℕ → Bool) (kept : 
   allowance-there : (k : ℕ) → k ≢ t → allowance m opened k ≡ allowance m r k
   allowance-there k n = allowance-is m opened k false (deficitOf r k) (m .client k .waiting) (mine-off opened k n) (deficit-there r t begun k n) refl ∙ sym (allowance-was k)
 
-  each-opened : Shares m opened
+  each-opened : EachShare m opened
   each-opened k i = ⊎-elim
       (λ (e : k ≡ t). subst (λ (j : ℕ). Share (m .count) (r .total) (quantumOf r j) (deficitOf opened j) (mine opened j) (m .client j)) (sym e)
         (share-is (sym here) (sym (mine-turn opened)) (share-opened (kept .each t l) (was t l) some)))
@@ -312,7 +289,7 @@ module _ (m : Meaning) (r : Ring) (gone gone′ : ℕ → ℕ → Bool) (kept : 
       allowance-is after gave k false (deficitOf r k) (m .client k .waiting) (mine-off gave k n) (deficit-there r t rest k n) (ap (λ (x : Client). x .waiting) (at-other t k serve (m .client) n))
       ∙ sym (allowance-is m r k false (deficitOf r k) (m .client k .waiting) (mine-off r k n) refl refl)
 
-  each-gave : Shares after gave
+  each-gave : EachShare after gave
   each-gave k i = at-elim (Share (m .count) (r .total) (quantumOf r k) (deficitOf gave k) (mine gave k)) t k serve (m .client)
       (λ e. subst (λ (j : ℕ). Share (m .count) (r .total) (quantumOf r j) (deficitOf gave j) (mine gave j) (serve (m .client j))) (sym e)
         (share-is (sym gave-here) (sym (mine-turn gave)) (share-gave (kept .each t l) is-open)))
@@ -359,4 +336,30 @@ module _ (m : Meaning) (r : Ring) (gone gone′ : ℕ → ℕ → Bool) (kept : 
         (waiting-holds c i)
         (λ none. resting after gave c (gone′ c) i each-gave (λ o n. seen′ o c i n) (omega (arith, none)))
         (cases-lt 0 (length (after .client c .waiting)));
+    }
+
+-- ## Within the laws
+
+module _ (m : Meaning) (r : Ring) (gone : ℕ → ℕ → Bool) (fits : sum (m .count) (quantumOf r) ≤ r .total) (P : Paced m r gone) where
+  -- what is gone and what a client may give weigh no more than θ has for them
+  weight : (c : ℕ) → c < m .count → quantumOf r c * others (m .count) c (marked (gone c) r) + (r .total - quantumOf r c) * allowance m r c ≤ (r .total - quantumOf r c) * (quantumOf r c + 15)
+  weight c l = by-test (mine r c)
+      (λ b. Share (m .count) (r .total) (quantumOf r c) (deficitOf r c) b (m .client c)
+        → quantumOf r c * others (m .count) c (marked (gone c) r) + (r .total - quantumOf r c) * allowanceIn b (deficitOf r c) (m .client c .waiting) ≤ (r .total - quantumOf r c) * (quantumOf r c + 15))
+      (λ e h. let o = mine-true r c e in
+        weigh-inside (quantumOf r c) (r .total - quantumOf r c) (others (m .count) c (marked (gone c) r)) (allowanceIn true (deficitOf r c) (m .client c .waiting)) (gone-none m r gone fits P c l (o .0) (o .1)) (h .inside refl .1))
+      (λ e h. weigh-outside (quantumOf r c) (r .total - quantumOf r c) (others (m .count) c (marked (gone c) r)) (allowanceIn false (deficitOf r c) (m .client c .waiting)) (gone-few m r gone fits P c l) (omega (arith, h .outside refl .0)))
+      (P .each c l)
+
+  -- on time with θ, and so within the laws
+  pub paced-lawful : Kept m → Lawful m
+  paced-lawful kept = record {
+      eight = kept .eight;
+      counted = kept .counted;
+      each = λ c l.
+        let x = m .client c in
+        let h = P .each c l in
+        let some : 0 < quantumOf r c = omega (arith, h .least) in
+        laws-on-time (theta (m .count) (r .total) (quantumOf r c)) (m .now) x (kept .each c l) (h .late)
+          (on-time (P .bound c l) (theta (m .count) (r .total) (quantumOf r c)) some (weight c l) (theta-late (m .count) (r .total) (quantumOf r c) some));
     }

@@ -156,6 +156,14 @@ module _ (m : Meaning) (r : Ring) (kept : Kept m) (full : length (r .deficits) �
           le-leb (ahead (m .count) u c) (ahead (m .count) u j)
             (omega (arith, l, ahead-moved (m .count) (r .turn) h u c (f .low) i y, ahead-moved (m .count) (r .turn) h u j (f .low) e (omega (arith, l, y)))))
 
+-- a submission keeps a ring sound
+pub sound-submitted : (m : Meaning) (r : Ring) (c label len : ℕ) → Sound m r → Sound (submitted m c label len) r
+sound-submitted m r c label len s = by (granted m c len)
+  where
+    by : (d : Bool) → Sound (cond {A = Meaning} d (record { count = m .count; now = m .now; client = at c (entered (m .now) label len) (m .client) }) m) r
+    by true = record { within = s .within; paced = paced-came m r (goneRound (m .count) (r .turn)) (goneRound (m .count) (r .turn)) (s .paced) c label len (s .paced .own) (s .paced .seen) (λ _ _ _ _ _ _ g. g) }
+    by false = s
+
 -- what the search of all clients after the turn found
 searched : (m : Meaning) (r : Ring) → Sound m r → Found (m .count) (waits m) (m .count) (r .turn) (seek (m .count) (waits m) (m .count) (nextOf (m .count) (r .turn)))
 searched m r s = ⊎-elim
@@ -220,17 +228,9 @@ module _ (m : Meaning) (r : Ring) (kept : Kept m) (full : length (r .deficits) �
         (ap (λ (d : ℕ). turnTo opened u (restOf d (m .client u .waiting))) (here ∙ same) ∙ turn-again r u begun (restOf (begunWith m r u) (m .client u .waiting)))
         x
 
-  -- a slot keeps a ring sound
+  -- and so does a slot
   pub sound-slot : Sound (slotLeaves m (turnIn m r)) (ringAfter m r (turnIn m r))
   sound-slot = by-test (r .opened)
       (λ b. let who = cond {A = Option ℕ} b (Some (r .turn)) (seek (m .count) (waits m) (m .count) (nextOf (m .count) (r .turn))) in Sound (slotLeaves m who) (ringAfter m r who))
       sound-open
       (λ o. sound-found o (seek (m .count) (waits m) (m .count) (nextOf (m .count) (r .turn))) (searched m r s))
-
--- and so does a submission
-pub sound-submitted : (m : Meaning) (r : Ring) (c label len : ℕ) → Sound m r → Sound (submitted m c label len) r
-sound-submitted m r c label len s = by (granted m c len)
-  where
-    by : (d : Bool) → Sound (cond {A = Meaning} d (record { count = m .count; now = m .now; client = at c (entered (m .now) label len) (m .client) }) m) r
-    by true = record { within = s .within; paced = paced-came m r (goneRound (m .count) (r .turn)) (goneRound (m .count) (r .turn)) (s .paced) c label len (s .paced .own) (s .paced .seen) (λ _ _ _ _ _ _ g. g) }
-    by false = s

@@ -10,5 +10,7 @@ use Rattle.credits.proofs.booking.CreditBooking.new.Needs as need
 pub ghost-result : need.ghost-result
 ghost-result c =
     let m = meaning (c .new .result) in
-    let b = balanced-empty m 1 _ (ap (λ (v : Meaning). v .count) (c .new .ensures)) in
-    (refl, (omega arith, (omega arith, (balanced-room m 1 _ b, (balanced-capped m 1 _ b, (∣ subst Unused (sym (c .new .ensures)) unused-none ∣₁, (b, tt)))))))
+    let none = ap (λ (v : Meaning). v .count) (c .new .ensures) in
+    (refl, (omega arith, (omega arith,
+      (balanced-room m _ _ (balanced-empty m _ _ none), (balanced-capped m 1 _ (balanced-empty m 1 _ none),
+        (∣ subst Unused (sym (c .new .ensures)) unused-none ∣₁, (balanced-empty m _ _ none, tt)))))))

@@ -23,6 +23,6 @@ cast-result c =
     let room = subst (λ (k : ℕ). c .args .step ≤ x .table .denominator - k) (c .steps .ensures ∙ ap steps front) (c .if-step-rest .left) in
     omega (
       arith,
-      latency-word x (c .args .rate) (c .args .step) (c .args .cap) (sym (c .if-not-rate-in-range .ensures tt)) (sym (c .if-not-share-in-range .ensures tt)) (c .if-rate-whole .left) room
+      latency-word x (c .args .rate) (c .args .step) (c .args .cap) (sym (c .if-not-rate-in-range .ensures tt)) (sym (c .if-not-share-in-range .ensures tt)) (omega (arith, c .if-rate-whole .left)) room
           (c .steps .result) (c .caps .result) (c .theta-theta .result) (c .latency-of .result) (c .steps .ensures ∙ ap steps front) (c .caps .ensures ∙ ap caps front) (c .theta-theta .ensures) (c .latency-of .ensures),
     )
