@@ -10,6 +10,7 @@ mod tests {
     use server::block::Served;
     use server::rate::Rate;
     use server::refusal::Refusal;
+    use server::refusal::RefusalDebug;
     use server::server::Server;
     use std::test::*;
 
@@ -170,13 +171,13 @@ mod tests {
     fn ninth_refused() -> Result<(), Fail> {
         let mut booking = RingBooking::new();
         let set = booked(booking.set_total(160));
-        let mut taken = 0;
+        let mut taken = true;
         for _ in 0..8 {
-            taken += (booked(booking.reserve(rate(1, 10), 16)) == 0) as u32;
+            taken &= booked(booking.reserve(rate(1, 10), 16)) == 0;
         }
         let ninth = booked(booking.reserve(rate(1, 10), 16));
         let server = booking.open();
-        check_eq((set, taken, ninth), (0, 8, 9))?;
+        check_eq((set, taken, ninth), (0, true, 9))?;
         check_eq(server.clients(), 8)
     }
 
