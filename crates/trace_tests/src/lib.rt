@@ -10,7 +10,7 @@ use trace::Unbooked;
 use trace::UnbookedBookings;
 
 /// What is told of a trace, with four zeros where it is whole.
-pub fn told(bytes: &[u8]) -> Notice {
+fn told(bytes: &[u8]) -> Notice {
     let mut bookings = Unbooked;
     match trace::read(bytes, &mut bookings) {
         Ok(_) => notice(0, 0, 0, 0),
@@ -19,7 +19,7 @@ pub fn told(bytes: &[u8]) -> Notice {
 }
 
 /// Line, field, hop and number.
-pub fn notice(line: u32, field: u8, hop: u8, number: u8) -> Notice {
+fn notice(line: u32, field: u8, hop: u8, number: u8) -> Notice {
     Notice {
         line,
         field,
@@ -29,7 +29,7 @@ pub fn notice(line: u32, field: u8, hop: u8, number: u8) -> Notice {
 }
 
 /// A text, some times over, between two others.
-pub fn repeated(
+fn repeated(
     heap: Global,
     front: &[u8],
     part: &[u8],
