@@ -1,6 +1,8 @@
 // Numbers as text: 1 to 10 digits with no leading zero, read up to a bound and written back.
 // Reading answers the number of a text, or nothing where the text is not of that form or over the bound.
 // Writing gives the same text again, into a small value of at most ten bytes; nothing is asked of a caller.
+#![tactic(auto)]
+
 ghost use Rattle.std.specs.Prelude.{◌≡◌, ◌≤◌, ◌∷◌, length};
 ghost use Rattle.decimal.specs.Numbers.{digits_on, kept, number_of};
 ghost use Rattle.std.specs.Char.{is_ascii_digit};

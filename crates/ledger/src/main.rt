@@ -2,6 +2,7 @@
 // joined, and that chain is joined with a ring. A list of calls is made of the whole; from the calls and
 // their answers alone the program keeps a book, and shows for each block how far it got from its start,
 // and the bound on that distance, which is the latency of the three hops together.
+#![tactic(auto)]
 mod answers;
 mod keeping;
 mod script;

@@ -1,6 +1,7 @@
 // The lines of a trace: what each kind of line says, over its own bytes.
 // A line's letter comes first, then its number of fields, and then its fields from the left.
 // A wrong line gives the fault of the first of these, and nothing is asked of a caller.
+#![tactic(auto)]
 mod lines;
 mod listing;
 mod owners;

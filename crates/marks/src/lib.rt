@@ -1,6 +1,8 @@
 // Texts that a mark byte cuts into parts, as lines end by byte 10 and commas part fields.
 // One call tells how many bytes stand before the first mark, all where there is none, and one how many marks there are.
 // They read nothing outside the text and ask nothing of their caller.
+#![tactic(auto)]
+
 ghost use Rattle.marks.specs.Marks.{marks_in, span_to};
 ghost use Rattle.std.specs.Prelude.{◌≡◌};
 

@@ -1,6 +1,7 @@
 // The reader over a trace's own bytes: it hands out lines and fields as parts of the trace.
 // A field is read as a letter, a number or a label, or gives its fault.
 // Nothing is read outside the bytes, and nothing is asked of a caller.
+#![tactic(auto)]
 mod fields;
 mod parts;
 mod reader;

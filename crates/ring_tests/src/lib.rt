@@ -1,6 +1,7 @@
 // Deficit round robin by example: small cases worked out by hand, each refusal once, and a longer run
 // beside a table that a model of the rules gave. A run is one letter a slot: a full stop where nothing
 // went, a digit for a unit of that client, a capital for a block's last unit.
+#![tactic(auto)]
 #[cfg(test)]
 mod tests {
     use clients::booking::BookingRefusal;

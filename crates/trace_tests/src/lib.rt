@@ -1,6 +1,7 @@
 // Traces and the fault that each must give, read with bookings that refuse nothing.
 // Each test is a table; a whole trace gives four zeros.
 // A trace cut at any byte lacks the line that it is cut in.
+#![tactic(auto)]
 use faults::Notice;
 use std::alloc::{AllocError, Global};
 use trace::Unbooked;

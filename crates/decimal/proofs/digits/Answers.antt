@@ -11,7 +11,7 @@ returns-then-not-is-digit-2 c =
 
 pub loop-digit-preserved : goal.loop-digit-preserved
 loop-digit-preserved c =
-    let y = sym c.if-not-is-digit-2.ensures in (
+    let y = sym c.if-not-is_digit-2.ensures in (
       grows c.loop-digit.value _ c.loop-digit.digit-index c.loop-digit.invariant.0 (digit_small (get_or c.args.rest.now c.loop-digit.digit-index 0) y),
       sym (digits_go c.loop-digit.value c.args.rest.now c.loop-digit.digit-index c.loop-digit-test.true y) ∙ c.loop-digit.invariant.1,
     )

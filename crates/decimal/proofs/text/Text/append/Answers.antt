@@ -10,10 +10,10 @@ invariant-of-self c = search (rules, places)
 pub returns : goal.returns
 returns c =
     let xs = c.args.self.now.bytes in
-    let ys = c.copy-from-slice.new.self in
+    let ys = c.copy_from_slice.new.self in
     let zs = text_of c.args.more.now in
     let more : length zs ≡ c.args.more.now.len = search (rules, places) in
-    let same : ys ≡ zs = c.copy-from-slice.ensures.after ∙ c.as-slice.ensures in
+    let same : ys ≡ zs = c.copy_from_slice.ensures.after ∙ c.as_slice.ensures in
     record {
       answer = appended_fits xs ys zs c.args.self.now.len c.args.more.now.len (search rules) (search rules) more same (search rules);
       after = appended xs ys zs c.args.self.now.len c.args.more.now.len (search rules) (search rules) more same (search rules);
