@@ -4,9 +4,9 @@ use Rattle.decimal.specs.Numbers.{digits_on}
 use Rattle.std.proofs.lemmas.List.{at_drop_all}
 use Rattle.std.proofs.Common.{get_or, sym, ◌∙◌, arith}
 
-pub returns-then-not-is-digit-2 : goal.returns-then-not-is-digit-2
-returns-then-not-is-digit-2 c =
-    sym (digits_stop c.loop-digit.value c.args.rest.now c.loop-digit.digit-index c.loop-digit-test.true (sym c.if-not-is-digit-2.ensures))
+pub returns-then-not-is_digit-2 : goal.returns-then-not-is_digit-2
+returns-then-not-is_digit-2 c =
+    sym (digits_stop c.loop-digit.value c.args.rest.now c.loop-digit.digit-index c.loop-digit-test.true (sym c.if-not-is_digit-2.ensures))
     ∙ c.loop-digit.invariant.1
 
 pub loop-digit-preserved : goal.loop-digit-preserved

@@ -3,8 +3,8 @@ use Rattle.std.proofs.lemmas.List.{at_drop_more, at_drop_all}
 use Rattle.frame.specs.Frames.{all_ok, owner_ok}
 use Rattle.frame.proofs.looking.all_known.Goals as goal
 
-pub returns-then-not-is-known : goal.returns-then-not-is-known
-returns-then-not-is-known c =
+pub returns-then-not-is_known : goal.returns-then-not-is_known
+returns-then-not-is_known c =
     let os = c.args.owners.now in
     let i = c.loop-owner.owner-index in
     let k : owner_ok (get_or os i None) ≡ false = search rules in

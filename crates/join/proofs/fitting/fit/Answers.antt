@@ -15,9 +15,9 @@ loop-client-preserved g c =
           let h = c.loop-client.invariant.0 sa sb e in
           let ea = c.view-a.ensures sa l in
           let eb = c.view-b.ensures sb (omega (arith, e, l)) in (
-            more i have_same_rate m n true c.loop-client.same c.same-rate-same.result a b h.0 ea eb c.same-rate-same.ensures,
-            more i are_idle m n (eqb m.now 0 && eqb n.now 0) c.loop-client.idle c.both-idle-idle.result a b h.1 ea eb c.both-idle-idle.ensures,
-            more i is_in_reach m n true c.loop-client.near c.in-reach-near.result a b h.2 ea eb c.in-reach-near.ensures,
+            more i have_same_rate m n true c.loop-client.same c.same_rate-same.result a b h.0 ea eb c.same_rate-same.ensures,
+            more i are_idle m n (eqb m.now 0 && eqb n.now 0) c.loop-client.idle c.both_idle-idle.result a b h.1 ea eb c.both_idle-idle.ensures,
+            more i is_in_reach m n true c.loop-client.near c.in_reach-near.result a b h.2 ea eb c.in_reach-near.ensures,
           ),
-      λ ne. ap (λ (f : Bool). f && c.same-rate-same.result) (c.loop-client.invariant.1 ne),
+      λ ne. ap (λ (f : Bool). f && c.same_rate-same.result) (c.loop-client.invariant.1 ne),
     )

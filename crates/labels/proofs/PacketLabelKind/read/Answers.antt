@@ -6,14 +6,14 @@ use Rattle.std.proofs.Common.{sym, arith}
 pub returns-then-stop-text : goal.returns-then-stop-text
 returns-then-stop-text c = no_stop c.args.text.now (omega (arith, c.span-stop.ensures))
 
-pub returns-in-default-read : goal.returns-in-default-read
-returns-in-default-read c = without_count c.args.text.now c.span-stop.result c.span-stop.ensures c.in-default-read.ensures
+pub returns-in_default-read : goal.returns-in_default-read
+returns-in_default-read c = without_count c.args.text.now c.span-stop.result c.span-stop.ensures c.in_default-read.ensures
 
-pub overflow-mul-result : goal.overflow-mul-result
-overflow-mul-result c = omega (arith, (numeral 2047 _ c.in-Some.apid (sym c.in-Some.ensures)).bound)
+pub overflow_mul-result : goal.overflow_mul-result
+overflow_mul-result c = omega (arith, (numeral 2047 _ c.in-Some.apid (sym c.in-Some.ensures)).bound)
 
-pub overflow-add-result : goal.overflow-add-result
-overflow-add-result c =
+pub overflow_add-result : goal.overflow_add-result
+overflow_add-result c =
     omega (arith, (numeral 2047 _ c.in-Some.apid (sym c.in-Some.ensures)).bound, (numeral 16383 _ c.in-Some-read.count (sym c.in-Some-read.ensures)).bound)
 
 pub returns : goal.returns

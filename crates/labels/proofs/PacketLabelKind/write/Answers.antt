@@ -4,16 +4,16 @@ use Rattle.labels.proofs.PacketWriting.{stop_fits, count_fits, packet_written}
 use Rattle.std.proofs.lemmas.Bool.{both_ways}
 use Rattle.std.proofs.Common.{sym}
 
-pub returns-in-err-push : goal.returns-in-err-push
-returns-in-err-push c =
+pub returns-in_err-push : goal.returns-in_err-push
+returns-in_err-push c =
     absurd
-    (both_ways _ (sym c.in-err-push.ensures.answer)
+    (both_ways _ (sym c.in_err-push.ensures.answer)
     (stop_fits c.args.code c.if-code-gt33554431.false (text_of c.number-text.result) c.number-text.ensures))
 
-pub returns-in-err-append : goal.returns-in-err-append
-returns-in-err-append c =
+pub returns-in_err-append : goal.returns-in_err-append
+returns-in_err-append c =
     absurd
-    (both_ways _ (sym c.in-err-append.ensures.answer)
+    (both_ways _ (sym c.in_err-append.ensures.answer)
     (count_fits c.args.code c.if-code-gt33554431.false (text_of c.number-text.result) c.number-text.ensures
     (text_of c.push.new.self) c.push.ensures.after (text_of c.number.result) c.number.ensures))
 

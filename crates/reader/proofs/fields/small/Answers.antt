@@ -2,5 +2,5 @@ use Rattle.decimal.proofs.TwoWays.{numeral}
 use Rattle.reader.proofs.fields.small.Goals as goal
 use Rattle.std.proofs.Common.{sym, arith}
 
-pub overflow-cast-result : goal.overflow-cast-result
-overflow-cast-result c = omega (arith, (numeral 255 _ c.in-Some.number (sym c.in-Some.ensures)).bound)
+pub overflow_cast-result : goal.overflow_cast-result
+overflow_cast-result c = omega (arith, (numeral 255 _ c.in-Some.number (sym c.in-Some.ensures)).bound)

@@ -33,7 +33,7 @@ returns-in-Err g c =
 pub returns : goal.returns
 returns g c =
     lines_last g.B.Bookings.desk g.L.LabelKind.reads (open_of c.loop-line.reading (g.B.Bookings.state c.loop-line.bookings))
-    c.loop-line.number (left c.loop-line.reader) c.rest.result.now c.in-default.ensures.value (c.rest.ensures ∙ c.line.ensures.after)
+    c.loop-line.number (left c.loop-line.reader) c.rest.result.now c.in_default.ensures.value (c.rest.ensures ∙ c.line.ensures.after)
     _
     (c.loop-line.invariant.1
     ∙ same_start g.B.Bookings.desk g.L.LabelKind.reads _ _ c.new-reading.ensures (g.B.Bookings.state c.args.bookings.now) 2 (parts 10 (left c.args.reader)))

@@ -18,4 +18,4 @@ unfolding none
 returns c =
     let x = c.args.self.now in
     let g = block_goes c.args.client x.count x.blocks none (omega arith) (omega arith) (omega arith) in
-    record { answers = g.0; leaves = ap (take (x.count - 1)) c.rotate-left.ensures.after ∙ g.1 }
+    record { answers = g.0; leaves = ap (take (x.count - 1)) c.rotate_left.ensures.after ∙ g.1 }

@@ -6,8 +6,8 @@ use Rattle.clients.proofs.Kept.{kept_slot, served_known}
 use Rattle.clients.proofs.Places.{slot_is, slot_idle}
 use Rattle.clients.proofs.table.Clients.slot.Goals as goal
 
-pub invariant-of-self : goal.invariant-of-self
-invariant-of-self c =
+pub invariant_of-self : goal.invariant_of-self
+invariant_of-self c =
     let x = c.args.self.now in
     let m = viewed x.now x.lanes in
     let who = c.args.who in
@@ -18,8 +18,8 @@ invariant-of-self c =
       (x.few, (∥∥₁_map x.kept (λ g. subst Kept (sym e.1) (kept_slot m who g)), tt)),
     )
 
-pub invariant-of-self-in-None : goal.invariant-of-self-in-None
-invariant-of-self-in-None c =
+pub invariant_of-self-in-None : goal.invariant_of-self-in-None
+invariant_of-self-in-None c =
     let x = c.args.self.now in
     let early : x.now < 4294967295 = omega arith in
     let e = slot_idle x.now x.lanes c.args.who early c.in-None.ensures in

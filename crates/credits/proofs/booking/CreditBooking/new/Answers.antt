@@ -6,8 +6,8 @@ use Rattle.clients.proofs.Kept.{unused_none}
 use Rattle.credits.specs.Balancing.{balanced_empty, balanced_room, balanced_capped}
 use Rattle.credits.proofs.booking.CreditBooking.new.Goals as goal
 
-pub invariant-of-result : goal.invariant-of-result
-invariant-of-result c =
+pub invariant_of-result : goal.invariant_of-result
+invariant_of-result c =
     let m = meaning c.new.result in
     let none = ap (λ (v : Meaning). v.count) c.new.ensures in (
       refl,

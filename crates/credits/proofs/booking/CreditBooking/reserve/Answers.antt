@@ -11,18 +11,18 @@ use Rattle.credits.specs.Balancing.{balanced_room, balanced_capped}
 use Rattle.credits.proofs.Bookings.{against, over, taken_says, taken_leaves, taken_unused, taken_balanced}
 use Rattle.credits.proofs.booking.CreditBooking.reserve.Goals as goal
 
-pub returns-in-err-terms : goal.returns-in-err-terms
-returns-in-err-terms c =
+pub returns-in_err-terms : goal.returns-in_err-terms
+returns-in_err-terms c =
     let p = err_from_is_err_and c.from-residual.result c.from-residual.ensures.1 in
-    let a = against c.args.self.now c.args.rate c.args.step c.args.cap c.in-err-terms.field-0.0 c.in-err-terms.ensures in
+    let a = against c.args.self.now c.args.rate c.args.step c.args.cap c.in_err-terms.field-0.0 c.in_err-terms.ensures in
     let said : BookingRefusal → Answer = λ r. Err r in
     record { answers = p.1 ∙ ap said p.2 ∙ a.0; leaves = a.1 }
 
-pub invariant-of-self : goal.invariant-of-self
-invariant-of-self c =
+pub invariant_of-self : goal.invariant_of-self
+invariant_of-self c =
     let x = c.args.self.now in
     let t = x.table in
-    let same = (over x c.args.rate c.args.step c.args.cap c.in-ok-terms.terms c.in-ok-terms.ensures
+    let same = (over x c.args.rate c.args.step c.args.cap c.in_ok-terms.terms c.in_ok-terms.ensures
     (meaning c.admit.new.self) c.admit.ensures.leaves c.if-not-admit.ensures.answers).0 in (
       x.full,
       (
@@ -47,18 +47,18 @@ pub returns-then-not-admit : goal.returns-then-not-admit
 returns-then-not-admit c =
     let x = c.args.self.now in
     let t = x.table in
-    let r = over x c.args.rate c.args.step c.args.cap c.in-ok-terms.terms c.in-ok-terms.ensures
+    let r = over x c.args.rate c.args.step c.args.cap c.in_ok-terms.terms c.in_ok-terms.ensures
     (meaning c.admit.new.self) c.admit.ensures.leaves c.if-not-admit.ensures.answers in
     let state : Meaning → State = λ v. record { clients = v; denominator = t.denominator; shares = shares_in v.count t } in
     record { answers = r.1; leaves = ap state r.0 ∙ r.2 }
 
-pub invariant-of-self-2 : goal.invariant-of-self-2
-invariant-of-self-2 c =
+pub invariant_of-self-2 : goal.invariant_of-self-2
+invariant_of-self-2 c =
     let x = c.args.self.now in
     let m' = meaning c.admit.new.self in
-    let b = taken_balanced x c.args.rate c.args.step c.args.cap c.in-ok-terms.terms c.in-ok-terms.ensures
+    let b = taken_balanced x c.args.rate c.args.step c.args.cap c.in_ok-terms.terms c.in_ok-terms.ensures
     m' c.admit.ensures.leaves c.if-not-admit.ensures.answers c.count-place.result c.count-place.ensures in
-    let u = taken_unused x c.args.rate c.args.step c.args.cap c.in-ok-terms.terms c.in-ok-terms.ensures
+    let u = taken_unused x c.args.rate c.args.step c.args.cap c.in_ok-terms.terms c.in_ok-terms.ensures
     m' c.admit.ensures.leaves c.if-not-admit.ensures.answers in (
       length-set x.table.places c.count-place.result _ ∙ x.full,
       (
@@ -75,8 +75,8 @@ returns c =
     let x = c.args.self.now in
     let m' = meaning c.admit.new.self in
     record {
-      answers = taken_says x c.args.rate c.args.step c.args.cap c.in-ok-terms.terms c.in-ok-terms.ensures
+      answers = taken_says x c.args.rate c.args.step c.args.cap c.in_ok-terms.terms c.in_ok-terms.ensures
           m' c.admit.ensures.leaves c.if-not-admit.ensures.answers;
-      leaves = taken_leaves x c.args.rate c.args.step c.args.cap c.in-ok-terms.terms c.in-ok-terms.ensures
+      leaves = taken_leaves x c.args.rate c.args.step c.args.cap c.in_ok-terms.terms c.in_ok-terms.ensures
           m' c.admit.ensures.leaves c.if-not-admit.ensures.answers c.count-place.result c.count-place.ensures;
     }

@@ -4,11 +4,11 @@ use Rattle.credits.specs.Balancing.{balanced_empty, balanced_room, balanced_capp
 use Rattle.credits.proofs.Bookings.{denominator_ranged}
 use Rattle.credits.proofs.booking.CreditBooking.set_denominator.Goals as goal
 
-pub invariant-of-self : goal.invariant-of-self
-invariant-of-self c =
+pub invariant_of-self : goal.invariant_of-self
+invariant_of-self c =
     let x = c.args.self.now in
     let m = meaning x.clients in
     let d = c.args.denominator in
-    let r = denominator_ranged d c.if-not-denominator-in-range.ensures in
+    let r = denominator_ranged d c.if-not-denominator_in_range.ensures in
     let b = balanced_empty m d x.table.places (omega arith) in
     (tt, (x.full, (r.0, (r.1, (balanced_room m d _ b, (balanced_capped m d _ b, (x.unused, (b, tt))))))))

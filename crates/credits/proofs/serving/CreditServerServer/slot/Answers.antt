@@ -24,8 +24,8 @@ earn-requires c =
       pays = subst (λ (o : Option _). Pays x.table.denominator o xs) (sym c.served-who.ensures) (served_pays m x.table.denominator xs);
     }
 
-pub invariant-of-self-2 : goal.invariant-of-self-2
-invariant-of-self-2 c =
+pub invariant_of-self-2 : goal.invariant_of-self-2
+invariant_of-self-2 c =
     let x = c.args.self.now in
     let m = meaning x.clients in
     let m' = meaning c.slot.new.self in

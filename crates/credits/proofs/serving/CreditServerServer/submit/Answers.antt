@@ -3,8 +3,8 @@ use Rattle.credits.specs.Balancing.{balanced_room, balanced_capped}
 use Rattle.credits.proofs.Slots.{submitted_balanced}
 use Rattle.credits.proofs.serving.CreditServerServer.submit.Goals as goal
 
-pub invariant-of-self : goal.invariant-of-self
-invariant-of-self c =
+pub invariant_of-self : goal.invariant_of-self
+invariant_of-self c =
     let x = c.args.self.now in
     let m' = meaning c.submit.new.self in
     let D = x.table.denominator in

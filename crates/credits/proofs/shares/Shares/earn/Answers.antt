@@ -6,8 +6,8 @@ use Rattle.credits.proofs.Loops.{small_at, pays_at, unearned, earned_more}
 use Rattle.credits.specs.Places.{written_all}
 use Rattle.credits.proofs.shares.Shares.earn.Goals as goal
 
-pub credit-after-requires : goal.credit-after-requires
-credit-after-requires c =
+pub credit_after-requires : goal.credit_after-requires
+credit_after-requires c =
     let m = meaning c.args.clients.now in
     let t = c.args.self.now in
     let i = c.loop-client.client in
@@ -15,7 +15,7 @@ credit-after-requires c =
     record {
       small = subst (λ (x : Share). x.credit + x.step < 2 ^ 32) (sym same) (small_at m.count i t.places (omega arith) (omega arith) c.requires.small);
       pays = λ e. subst (λ (x : Share). t.denominator ≤ x.credit + x.step) (sym same)
-          (pays_at m.count i t.places (omega arith) (omega arith) t.denominator c.args.who c.requires.pays (sym c.is-chosen.ensures ∙ e));
+          (pays_at m.count i t.places (omega arith) (omega arith) t.denominator c.args.who c.requires.pays (sym c.is_chosen.ensures ∙ e));
     }
 
 pub loop-client-preserved : goal.loop-client-preserved
@@ -26,7 +26,7 @@ loop-client-preserved c =
       c.loop-client.invariant.0,
       length-set c.loop-client.self.places i _ ∙ c.loop-client.invariant.1,
       earned_more m t.denominator c.args.who i t.places c.loop-client.self.places (omega arith) c.loop-client.invariant.2
-          c.waits.result c.is-chosen.result c.credit-after.result c.waits.ensures c.is-chosen.ensures c.credit-after.ensures,
+          c.waits.result c.is_chosen.result c.credit_after.result c.waits.ensures c.is_chosen.ensures c.credit_after.ensures,
     )
 
 pub returns : goal.returns

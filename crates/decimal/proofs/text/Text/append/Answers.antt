@@ -4,8 +4,8 @@ use Rattle.decimal.specs.Texts.{text_of}
 use Rattle.std.proofs.lemmas.List.{places}
 use Rattle.std.proofs.Common.{◌≡◌, length, ◌∙◌, arith, rules}
 
-pub invariant-of-self : goal.invariant-of-self
-invariant-of-self c = search (rules, places)
+pub invariant_of-self : goal.invariant_of-self
+invariant_of-self c = search (rules, places)
 
 pub returns : goal.returns
 returns c =

@@ -6,8 +6,8 @@ use Rattle.clients.proofs.Kept.{unused_none}
 use Rattle.frame.proofs.Bookings.{paced_none}
 use Rattle.frame.proofs.booking.FrameBooking.new.Goals as goal
 
-pub invariant-of-result : goal.invariant-of-result
-invariant-of-result c = (
+pub invariant_of-result : goal.invariant_of-result
+invariant_of-result c = (
   refl,
   (
     omega arith,

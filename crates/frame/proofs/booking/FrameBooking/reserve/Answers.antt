@@ -5,8 +5,8 @@ use Rattle.frame.specs.FramesLemmas.{length_owners}
 use Rattle.frame.proofs.Bookings.{own_small, own_fits, unused_kept, paced_kept, reserved_is, ninth_over}
 use Rattle.frame.proofs.booking.FrameBooking.reserve.Goals as goal
 
-pub overflow-mul-owned : goal.overflow-mul-owned
-overflow-mul-owned c =
+pub overflow_mul-owned : goal.overflow_mul-owned
+overflow_mul-owned c =
     let x = c.args.self.now in
     let n = length_owners x.frame x.full x.some x.most in
     omega (
@@ -15,15 +15,15 @@ overflow-mul-owned c =
           (c.owned-owned.ensures ∙ ap (λ k. owned k (owners_in x.frame)) c.count.ensures) c.args.rate.q (omega arith),
     )
 
-pub overflow-sub-slots : goal.overflow-sub-slots
-overflow-sub-slots c =
+pub overflow_sub-slots : goal.overflow_sub-slots
+overflow_sub-slots c =
     let x = c.args.self.now in
     let n = length_owners x.frame x.full x.some x.most in
     own_small (meaning x.clients) (owners_in x.frame) (omega (arith, n)) (omega (arith, n)) x.frame.length c.owned-owned.result n
     (c.owned-owned.ensures ∙ ap (λ k. owned k (owners_in x.frame)) c.count.ensures)
 
-pub invariant-of-self-2 : goal.invariant-of-self-2
-invariant-of-self-2 c =
+pub invariant_of-self-2 : goal.invariant_of-self-2
+invariant_of-self-2 c =
     let x = c.args.self.now in
     let m = meaning x.clients in
     let os = owners_in x.frame in
@@ -37,11 +37,11 @@ invariant-of-self-2 c =
         (
           x.most,
           (
-            unused_kept m os lo hi x.frame.length c.owned-owned.result n o c.args.rate c.if-not-rate-in-range.ensures c.if-rate-slots.false
-                c.latency-of-latency.result c.latency-of-latency.ensures (meaning c.admit.new.self) c.admit.ensures.leaves x.unused,
+            unused_kept m os lo hi x.frame.length c.owned-owned.result n o c.args.rate c.if-not-rate_in_range.ensures c.if-rate-slots.false
+                c.latency_of-latency.result c.latency_of-latency.ensures (meaning c.admit.new.self) c.admit.ensures.leaves x.unused,
             (
-              paced_kept m os lo hi x.frame.length c.owned-owned.result n o c.args.rate c.if-not-rate-in-range.ensures c.if-rate-slots.false
-                  c.latency-of-latency.result c.latency-of-latency.ensures (meaning c.admit.new.self) c.admit.ensures.leaves x.paced,
+              paced_kept m os lo hi x.frame.length c.owned-owned.result n o c.args.rate c.if-not-rate_in_range.ensures c.if-rate-slots.false
+                  c.latency_of-latency.result c.latency_of-latency.ensures (meaning c.admit.new.self) c.admit.ensures.leaves x.paced,
               tt,
             ),
           ),
@@ -59,8 +59,8 @@ returns-then-not-admit c =
     let lo : 1 ≤ length os = omega (arith, n) in
     let hi : length os ≤ 256 = omega (arith, n) in
     record {
-      answers = ninth_over m os lo hi x.frame.length c.owned-owned.result n o c.args.rate c.if-not-rate-in-range.ensures c.if-rate-slots.false
-          c.latency-of-latency.result c.latency-of-latency.ensures (search rules);
-      leaves = reserved_is m os lo hi x.frame.length c.owned-owned.result n o c.args.rate c.if-not-rate-in-range.ensures c.if-rate-slots.false
-          c.latency-of-latency.result c.latency-of-latency.ensures (meaning c.admit.new.self) c.admit.ensures.leaves;
+      answers = ninth_over m os lo hi x.frame.length c.owned-owned.result n o c.args.rate c.if-not-rate_in_range.ensures c.if-rate-slots.false
+          c.latency_of-latency.result c.latency_of-latency.ensures (search rules);
+      leaves = reserved_is m os lo hi x.frame.length c.owned-owned.result n o c.args.rate c.if-not-rate_in_range.ensures c.if-rate-slots.false
+          c.latency_of-latency.result c.latency_of-latency.ensures (meaning c.admit.new.self) c.admit.ensures.leaves;
     }

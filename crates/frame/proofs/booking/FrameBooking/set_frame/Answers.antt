@@ -4,8 +4,8 @@ use Rattle.frame.proofs.Bookings.{paced_none}
 use Rattle.frame.specs.FramesLemmas.{frame_sizes}
 use Rattle.frame.proofs.booking.FrameBooking.set_frame.Goals as goal
 
-pub invariant-of-self : goal.invariant-of-self
-invariant-of-self c =
+pub invariant_of-self : goal.invariant_of-self
+invariant_of-self c =
     let x = c.args.self.now in
-    let n = frame_sizes c.args.owners.now c.if-not-in-range.ensures in
-    (c.table-of.ensures.full, (n.0, (n.1, (x.unused, (∣ paced_none (meaning x.clients) _ (omega arith) ∣₁, tt)))))
+    let n = frame_sizes c.args.owners.now c.if-not-in_range.ensures in
+    (c.table_of.ensures.full, (n.0, (n.1, (x.unused, (∣ paced_none (meaning x.clients) _ (omega arith) ∣₁, tt)))))

@@ -8,8 +8,8 @@ use Rattle.frame.specs.Pacing.{paced_submitted}
 use Rattle.frame.specs.FramesLemmas.{some_owners}
 use Rattle.frame.proofs.serving.FrameServerServer.submit.Goals as goal
 
-pub invariant-of-self : goal.invariant-of-self
-invariant-of-self c =
+pub invariant_of-self : goal.invariant_of-self
+invariant_of-self c =
     let x = c.args.self.now in
     let os = owners_in x.frame in (
       x.full,

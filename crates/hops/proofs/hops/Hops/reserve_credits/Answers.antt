@@ -14,8 +14,8 @@ returns c =
     let client = c.args.client.now in
     let s = booked_in x.credits in
     let after : State → Booked = λ v. record { frame = frame_in x.frame; credits = v; ring = ring_in x.ring } in
-    let says : c.reserve.result ≡ reserve_says s (line_rate client) client.step client.«cap» = c.reserve.ensures.answers ∙ ap (λ (r : Rate). reserve_says s r client.step client.«cap») c.rate-of.ensures in
-    let leaves : booked_in c.reserve.new.self ≡ reserved s (line_rate client) client.step client.«cap» = c.reserve.ensures.leaves ∙ ap (λ (r : Rate). reserved s r client.step client.«cap») c.rate-of.ensures in
+    let says : c.reserve.result ≡ reserve_says s (line_rate client) client.step client.«cap» = c.reserve.ensures.answers ∙ ap (λ (r : Rate). reserve_says s r client.step client.«cap») c.rate_of.ensures in
+    let leaves : booked_in c.reserve.new.self ≡ reserved s (line_rate client) client.step client.«cap» = c.reserve.ensures.leaves ∙ ap (λ (r : Rate). reserved s r client.step client.«cap») c.rate_of.ensures in
     c.at.ensures (after (booked_in c.reserve.new.self))
     ∙ ap (λ (r : Result (Unit {0}) BookingRefusal). at_hop 2 r (after (booked_in c.reserve.new.self))) says
     ∙ ap (λ (v : State). at_hop 2 (reserve_says s (line_rate client) client.step client.«cap») (after v)) leaves

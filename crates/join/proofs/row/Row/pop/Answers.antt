@@ -8,5 +8,5 @@ returns c =
     let x = c.args.self.now in
     record {
       answers = head_row x.count x.at (omega arith);
-      leaves = ap (take (x.count - 1)) c.rotate-left.ensures.after ∙ turned_take x.count x.at (omega arith) (omega arith);
+      leaves = ap (take (x.count - 1)) c.rotate_left.ensures.after ∙ turned_take x.count x.at (omega arith) (omega arith);
     }

@@ -22,16 +22,16 @@ returns g c =
     let k = c.args.client in
     let low : 0 < c.args.length = search rules in
     let high : c.args.length ≤ 16 = search rules in
-    let known : Sound a b x → k < x.clients = λ s. (asked_ok J k c.in-ok-rate.rate (λ y. y.terms.rate) (c.in-ok-rate.ensures s)).0 in
-    let room : (s : Sound a b x) → length (J.client k).waiting < 8 = λ s. omega (arith, c.if-branch-ge8.false, (asked_ok J k c.in-ok-waiting.field-0 (λ y. length y.waiting) (c.in-ok-waiting.ensures s)).1) in
+    let known : Sound a b x → k < x.clients = λ s. (asked_ok J k c.in_ok-rate.rate (λ y. y.terms.rate) (c.in_ok-rate.ensures s)).0 in
+    let room : (s : Sound a b x) → length (J.client k).waiting < 8 = λ s. omega (arith, c.if-branch-ge8.false, (asked_ok J k c.in_ok-waiting.field-0 (λ y. length y.waiting) (c.in_ok-waiting.ensures s)).1) in
     record {
       answers = λ s. submit_says x.clients x.now ss m n s.2 k (known s) c.args.label c.args.length low high (room s)
           (chain_lawful x.clients x.now ss m n s.2 (g.met.A.Server.lawful x.first s.0) (g.met.B.Server.lawful x.second s.1))
-          c.in-ok-rate.rate c.in-ok-latency.latency c.in-ok-clock.clock c.start-at.result c.due-of.result
-          (asked_ok J k c.in-ok-rate.rate (λ y. y.terms.rate) (c.in-ok-rate.ensures s)).1
-          (asked_ok J k c.in-ok-latency.latency (λ y. y.terms.latency) (c.in-ok-latency.ensures s)).1
-          (asked_ok J k c.in-ok-clock.clock (λ y. y.clock) (c.in-ok-clock.ensures s)).1
-          c.start-at.ensures c.due-of.ensures;
+          c.in_ok-rate.rate c.in_ok-latency.latency c.in_ok-clock.clock c.start_at.result c.due_of.result
+          (asked_ok J k c.in_ok-rate.rate (λ y. y.terms.rate) (c.in_ok-rate.ensures s)).1
+          (asked_ok J k c.in_ok-latency.latency (λ y. y.terms.latency) (c.in_ok-latency.ensures s)).1
+          (asked_ok J k c.in_ok-clock.clock (λ y. y.clock) (c.in_ok-clock.ensures s)).1
+          c.start_at.ensures c.due_of.ensures;
       leaves = λ s. submit_leaves x.clients x.now ss m n s.2 k (known s) c.args.label c.args.length low high (room s) (a.means (a.state m')) (c.submit.ensures.leaves s.0);
       stays = λ s. (c.submit.ensures.stays s.0, s.1, submit_stands x.clients x.now ss m n s.2 k (known s) c.args.label c.args.length low high (room s) (a.means (a.state m')) (c.submit.ensures.leaves s.0));
       exactly = λ s e. exact_enter a.means b.means a.machine b.machine (state_of a b x) (a.state m') k c.args.label c.args.length

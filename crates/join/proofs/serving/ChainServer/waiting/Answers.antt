@@ -11,5 +11,5 @@ returns g c = λ s.
     let m = g.A.Server.means (g.A.Server.state x.first) in
     let n = g.B.Server.means (g.B.Server.state x.second) in
     let ss = starts_in x.starts in
-    let w = waiting_both x.clients x.now ss m n s.2 c.args.client c.if-client-self.false c.in-ok-first.first c.in-ok-second.second (c.in-ok-first.ensures s.0) (c.in-ok-second.ensures s.1) in
-    asked_known (chained x.clients x.now ss m n) c.args.client c.saturating-add.result (λ y. length y.waiting) c.if-client-self.false (omega (arith, w.0, w.1, c.saturating-add.ensures))
+    let w = waiting_both x.clients x.now ss m n s.2 c.args.client c.if-client-self.false c.in_ok-first.first c.in_ok-second.second (c.in_ok-first.ensures s.0) (c.in_ok-second.ensures s.1) in
+    asked_known (chained x.clients x.now ss m n) c.args.client c.saturating_add.result (λ y. length y.waiting) c.if-client-self.false (omega (arith, w.0, w.1, c.saturating_add.ensures))

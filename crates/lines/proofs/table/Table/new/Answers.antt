@@ -2,5 +2,5 @@ use Rattle.lines.proofs.table.Table.new.Goals as goal
 use lib.ListN.{length-replicate}
 use Rattle.std.proofs.Common.{arith}
 
-pub invariant-of-result : goal.invariant-of-result
-invariant-of-result g c = (length-replicate g.row.N c.args.fill, (omega arith, tt))
+pub invariant_of-result : goal.invariant_of-result
+invariant_of-result g c = (length-replicate g.row.N c.args.fill, (omega arith, tt))

@@ -20,10 +20,10 @@ returns c =
       after = left_behind 44 all c.rest-rest.result.now place c.span-span.result c.rest-rest.ensures c.span-span.ensures;
     }
 
-pub invariant-of-self : goal.invariant-of-self
-invariant-of-self c =
+pub invariant_of-self : goal.invariant_of-self
+invariant_of-self c =
     (omega (arith, left_length c.args.self.now.bytes.now c.rest-rest.result.now c.args.self.now.place c.rest-rest.ensures c.args.self.now.within), tt)
 
-pub invariant-of-self-2 : goal.invariant-of-self-2
-invariant-of-self-2 c =
+pub invariant_of-self-2 : goal.invariant_of-self-2
+invariant_of-self-2 c =
     (omega (arith, left_length c.args.self.now.bytes.now c.rest-rest.result.now c.args.self.now.place c.rest-rest.ensures c.args.self.now.within), tt)

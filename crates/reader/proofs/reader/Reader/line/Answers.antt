@@ -20,6 +20,6 @@ returns c =
       after = line_behind all c.rest-rest.result.now place c.span-span.result c.rest-rest.ensures c.span-span.ensures c.if-span-rest.false;
     }
 
-pub invariant-of-self : goal.invariant-of-self
-invariant-of-self c =
+pub invariant_of-self : goal.invariant_of-self
+invariant_of-self c =
     (omega (arith, left_length c.args.self.now.bytes.now c.rest-rest.result.now c.args.self.now.place c.rest-rest.ensures c.args.self.now.within), tt)

@@ -18,13 +18,13 @@ theta-late-requires c =
     let q = quantum_ranged b.shares b.few b.within b.carried c.loop-place.place c.loop-place-test.true in
     (q.0, (q.1, (q.2, (b.ranged.1, omega arith))))
 
-pub overflow-cast-latency-of : goal.overflow-cast-latency-of
-overflow-cast-latency-of c =
+pub overflow_cast-latency_of : goal.overflow_cast-latency_of
+overflow_cast-latency_of c =
     let b = c.args.self.now in
     let s = b.shares in
     let k = c.loop-place.place in
-    let late : c.latency-of.result ≡ (terms_in s k).latency =
-    c.latency-of.ensures ∙ ap (latency_for (rate_in s k).p (rate_in s k).q) c.theta-late.ensures in
+    let late : c.latency_of.result ≡ (terms_in s k).latency =
+    c.latency_of.ensures ∙ ap (latency_for (rate_in s k).p (rate_in s k).q) c.theta-late.ensures in
     omega (arith, late, latency_most s b.few b.within b.carried k c.loop-place-test.true)
 
 pub loop-place-preserved : goal.loop-place-preserved
@@ -32,10 +32,10 @@ loop-place-preserved c =
     let b = c.args.self.now in
     let s = b.shares in
     let k = c.loop-place.place in
-    let late : c.latency-of.result ≡ (terms_in s k).latency =
-    c.latency-of.ensures ∙ ap (latency_for (rate_in s k).p (rate_in s k).q) c.theta-late.ensures in
+    let late : c.latency_of.result ≡ (terms_in s k).latency =
+    c.latency_of.ensures ∙ ap (latency_for (rate_in s k).p (rate_in s k).q) c.theta-late.ensures in
     c.admit.ensures.leaves
-    ∙ ap (λ (m : Meaning). admitted m (record { rate = rate_in s k; latency = c.latency-of.result })) c.loop-place.invariant
+    ∙ ap (λ (m : Meaning). admitted m (record { rate = rate_in s k; latency = c.latency_of.result })) c.loop-place.invariant
     ∙ ap (λ (n : ℕ). admitted (first_clients s k) (record { rate = rate_in s k; latency = n })) late
     ∙ next_first s b.few b.within b.carried k c.loop-place-test.true
 

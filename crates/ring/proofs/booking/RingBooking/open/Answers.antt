@@ -9,12 +9,12 @@ use Rattle.ring.specs.States.{first_clients}
 use Rattle.ring.proofs.Reservations.{sound_first, unused_first}
 use Rattle.ring.proofs.booking.RingBooking.open.Goals as goal
 
-pub invariant-of-result : goal.invariant-of-result
-invariant-of-result c =
+pub invariant_of-result : goal.invariant_of-result
+invariant_of-result c =
     let b = c.args.self in
     let s = b.shares in
     let clients = c.admitted-clients.ensures in
-    let turn : c.saturating-sub-turn.result ≡ s.count - 1 = c.saturating-sub-turn.ensures in
+    let turn : c.saturating_sub-turn.result ≡ s.count - 1 = c.saturating_sub-turn.ensures in
     let ring : ℕ → Ring = λ t. record { total = s.total; quanta = s.quanta; deficits = replicate 8 0; turn = t; opened = false } in (
       (b.full.1, refl),
       (
@@ -22,7 +22,7 @@ invariant-of-result c =
         (
           subst (λ (n : ℕ). sum n (quantum_in s) ≤ s.total) (sym (ap (λ (m : Meaning). m.count) clients)) b.within,
           (
-            ∣ subst (λ (m : Meaning). Sound m (ring c.saturating-sub-turn.result)) (sym clients)
+            ∣ subst (λ (m : Meaning). Sound m (ring c.saturating_sub-turn.result)) (sym clients)
                 (subst (λ (t : ℕ). Sound (first_clients s s.count) (ring t)) (sym turn) (sound_first s b.few b.within b.carried)) ∣₁,
             tt,
           ),

@@ -2,8 +2,8 @@ use Rattle.std.proofs.Common.{◌*◌, sym, ◌∙◌, arith, length-set, le-leb
 use Rattle.ring.proofs.Reservations.{within_more, carried_more}
 use Rattle.ring.proofs.booking.RingBooking.reserve.Goals as goal
 
-pub invariant-of-self : goal.invariant-of-self
-invariant-of-self c =
+pub invariant_of-self : goal.invariant_of-self
+invariant_of-self c =
     let b = c.args.self.now in
     let s = b.shares in
     let x = c.args.rate in
@@ -16,7 +16,7 @@ invariant-of-self c =
           (
             within_more s x φ b.full.0 b.full.1 (omega arith) (omega (arith, c.used.ensures)),
             (
-              carried_more s x φ b.full.0 b.full.1 (omega arith) (sym c.if-not-rate-in-range.ensures) (sym c.if-not-quantum-in-range.ensures)
+              carried_more s x φ b.full.0 b.full.1 (omega arith) (sym c.if-not-rate_in_range.ensures) (sym c.if-not-quantum_in_range.ensures)
                   (le-leb (x.p * s.total) (φ * x.q) (omega arith)) b.carried,
               tt,
             ),

@@ -7,13 +7,13 @@ use Rattle.ring.proofs.serving.RingServerServer.slot.Goals as goal
 
 -- ## Nobody waits
 
-pub invariant-of-self : goal.invariant-of-self
-invariant-of-self c =
+pub invariant_of-self : goal.invariant_of-self
+invariant_of-self c =
     let x = c.args.self.now in
     let m = meaning x.clients in
     let m' = meaning c.slot.new.self in
     let after = c.slot.ensures.leaves in
-    let turn = c.in-default.ensures in (
+    let turn = c.in_default.ensures in (
       x.full,
       (
         x.placed,
@@ -24,35 +24,35 @@ invariant-of-self c =
       ),
     )
 
-pub returns-in-default : goal.returns-in-default
-returns-in-default c =
+pub returns-in_default : goal.returns-in_default
+returns-in_default c =
     let x = c.args.self.now in
     let m = meaning x.clients in
-    let g = slot_is m x.ring None c.in-default.ensures (meaning c.slot.new.self) x.ring c.slot.ensures.leaves (idle_ring m x.ring) c.slot.result x.clients.kept c.slot.ensures.answers in
+    let g = slot_is m x.ring None c.in_default.ensures (meaning c.slot.new.self) x.ring c.slot.ensures.leaves (idle_ring m x.ring) c.slot.result x.clients.kept c.slot.ensures.answers in
     record { serves = λ _. g.0; stays = λ _. tt; exactly = λ _ _. g.1 }
 
 -- ## A client's turn
 
-pub begun-with-begun-requires : goal.begun-with-begun-requires
-begun-with-begun-requires c =
+pub begun_with-begun-requires : goal.begun_with-begun-requires
+begun_with-begun-requires c =
     let x = c.args.self.now in
     let m = meaning x.clients in
     let turn = c.in-Some.ensures in
-    let units = c.length-of.ensures ∙ ap length_of c.front.ensures in
+    let units = c.length_of.ensures ∙ ap length_of c.front.ensures in
     record {
       full = (x.full.0, (x.full.1, turn_eight m x.ring x.clients.kept x.sound c.in-Some.client turn));
-      fits = (begun_small m x.ring x.clients.kept x.sound c.in-Some.client turn, begun_enough m x.ring x.clients.kept x.sound c.in-Some.client turn c.length-of.result units);
+      fits = (begun_small m x.ring x.clients.kept x.sound c.in-Some.client turn, begun_enough m x.ring x.clients.kept x.sound c.in-Some.client turn c.length_of.result units);
     }
 
-pub returns-in-err-served : goal.returns-in-err-served
-returns-in-err-served c =
+pub returns-in_err-served : goal.returns-in_err-served
+returns-in_err-served c =
     let x = c.args.self.now in
     let m = meaning x.clients in
     let who = Some c.in-Some.client in
-    let says = c.in-err-served.ensures.answers in
+    let says = c.in_err-served.ensures.answers in
     let answer : c.from-residual.result ≡ slot_says m (Some c.in-Some.client) = search rules in
-    let g = slot_is m x.ring who c.in-Some.ensures (meaning c.slot-2.new.self) x.ring c.in-err-served.ensures.leaves
-    (refused_ring m x.ring who c.in-err-served.field-0.0 says) c.from-residual.result x.clients.kept answer in
+    let g = slot_is m x.ring who c.in-Some.ensures (meaning c.slot-2.new.self) x.ring c.in_err-served.ensures.leaves
+    (refused_ring m x.ring who c.in_err-served.field-0.0 says) c.from-residual.result x.clients.kept answer in
     record { serves = λ _. g.0; stays = λ _. tt; exactly = λ _ _. g.1 }
 
 pub bounds-self-client : goal.bounds-self-client
@@ -60,18 +60,18 @@ bounds-self-client c =
     let x = c.args.self.now in
     turn_eight (meaning x.clients) x.ring x.clients.kept x.sound c.in-Some.client c.in-Some.ensures
 
-pub invariant-of-self-2 : goal.invariant-of-self-2
-invariant-of-self-2 c =
+pub invariant_of-self-2 : goal.invariant_of-self-2
+invariant_of-self-2 c =
     let x = c.args.self.now in
     let m = meaning x.clients in
     let m' = meaning c.slot-2.new.self in
     let who = Some c.in-Some.client in
     let turn = c.in-Some.ensures in
-    let after = c.in-ok-served.ensures.leaves in
-    let ring = served_ring m x.ring x.sound c.in-Some.client turn c.length-of.result c.begun-with-begun.result c.in-ok-served.served m' c.front-2.result c.rest-given-rest.result
-    (c.length-of.ensures ∙ ap length_of c.front.ensures) c.begun-with-begun.ensures c.in-ok-served.ensures.answers after c.front-2.ensures c.rest-given-rest.ensures in
-    let r' = turn_to x.ring c.in-Some.client c.rest-given-rest.result in (
-      (x.full.0, length-set x.ring.deficits c.in-Some.client c.rest-given-rest.result.deficit ∙ x.full.1),
+    let after = c.in_ok-served.ensures.leaves in
+    let ring = served_ring m x.ring x.sound c.in-Some.client turn c.length_of.result c.begun_with-begun.result c.in_ok-served.served m' c.front-2.result c.rest_given-rest.result
+    (c.length_of.ensures ∙ ap length_of c.front.ensures) c.begun_with-begun.ensures c.in_ok-served.ensures.answers after c.front-2.ensures c.rest_given-rest.ensures in
+    let r' = turn_to x.ring c.in-Some.client c.rest_given-rest.result in (
+      (x.full.0, length-set x.ring.deficits c.in-Some.client c.rest_given-rest.result.deficit ∙ x.full.1),
       (
         turn_eight m x.ring x.clients.kept x.sound c.in-Some.client turn,
         (
@@ -87,9 +87,9 @@ returns c =
     let m = meaning x.clients in
     let m' = meaning c.slot-2.new.self in
     let turn = c.in-Some.ensures in
-    let after = c.in-ok-served.ensures.leaves in
-    let says = c.in-ok-served.ensures.answers in
-    let ring = served_ring m x.ring x.sound c.in-Some.client turn c.length-of.result c.begun-with-begun.result c.in-ok-served.served m' c.front-2.result c.rest-given-rest.result
-    (c.length-of.ensures ∙ ap length_of c.front.ensures) c.begun-with-begun.ensures says after c.front-2.ensures c.rest-given-rest.ensures in
-    let g = slot_is m x.ring (Some c.in-Some.client) turn m' (turn_to x.ring c.in-Some.client c.rest-given-rest.result) after ring (Ok c.in-ok-served.served) x.clients.kept says in
+    let after = c.in_ok-served.ensures.leaves in
+    let says = c.in_ok-served.ensures.answers in
+    let ring = served_ring m x.ring x.sound c.in-Some.client turn c.length_of.result c.begun_with-begun.result c.in_ok-served.served m' c.front-2.result c.rest_given-rest.result
+    (c.length_of.ensures ∙ ap length_of c.front.ensures) c.begun_with-begun.ensures says after c.front-2.ensures c.rest_given-rest.ensures in
+    let g = slot_is m x.ring (Some c.in-Some.client) turn m' (turn_to x.ring c.in-Some.client c.rest_given-rest.result) after ring (Ok c.in_ok-served.served) x.clients.kept says in
     record { serves = λ _. g.0; stays = λ _. tt; exactly = λ _ _. g.1 }

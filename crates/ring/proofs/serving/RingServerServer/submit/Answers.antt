@@ -9,8 +9,8 @@ use Rattle.ring.proofs.Rounds.{sound_submitted}
 use Rattle.ring.proofs.Slots.{submitted_count}
 use Rattle.ring.proofs.serving.RingServerServer.submit.Goals as goal
 
-pub invariant-of-self : goal.invariant-of-self
-invariant-of-self c =
+pub invariant_of-self : goal.invariant_of-self
+invariant_of-self c =
     let x = c.args.self.now in
     let m = meaning x.clients in
     let after = c.submit.ensures.leaves in
