@@ -11,5 +11,5 @@ pub struct Clients {
     pub(crate) lanes: Lanes,
     ghost full: { (length lanes.terms ≡ 8) × (length lanes.clocks ≡ 8) × (length lanes.queues ≡ 8) },
     ghost few: { lanes.count ≤ 8 },
-    ghost kept: { ∥ Kept (viewed (λ x. x.now) lanes) ∥₁ },
+    ghost kept: { ∥ Kept (viewed now lanes) ∥₁ },
 }

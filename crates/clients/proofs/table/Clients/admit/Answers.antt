@@ -11,10 +11,12 @@ pub invariant_of-self : goal.invariant_of-self
 invariant_of-self c =
     let x = c.args.self.now in
     let l = x.lanes in
-    let e = admit_is x.now l x.full.0 x.full.1 x.full.2 c.args.terms c.new.result (omega arith) c.if-not-in_range.ensures c.new.ensures in (
-      (length-set l.terms l.count c.args.terms ∙ x.full.0, length-set l.clocks l.count 0 ∙ x.full.1, length-set l.queues l.count c.new.result ∙ x.full.2),
-      (omega arith, (∥∥₁_map x.kept (λ g. subst Kept (sym e.1) (kept_admitted (viewed x.now l) c.args.terms g)), tt)),
-    )
+    let e = admit_is x.now l x.full.0 x.full.1 x.full.2 c.args.terms c.new.result (omega arith) c.if-not-in_range.ensures c.new.ensures in
+    record {
+      full = (length-set l.terms l.count c.args.terms ∙ x.full.0, length-set l.clocks l.count 0 ∙ x.full.1, length-set l.queues l.count c.new.result ∙ x.full.2);
+      few = omega arith;
+      kept = ∥∥₁_map x.kept (λ g. subst Kept (sym e.1) (kept_admitted (viewed x.now l) c.args.terms g));
+    }
 
 pub returns : goal.returns
 returns c =

@@ -3,4 +3,8 @@ use Rattle.clients.proofs.table.Clients.new.Goals as goal
 
 pub invariant_of-result : goal.invariant_of-result
 invariant_of-result c =
-    ((refl, refl, refl), (omega arith, (∣ record { eight = omega arith; counted = omega arith; each = λ k l. absurd (omega arith) } ∣₁, tt)))
+    record {
+      full = (refl, refl, refl);
+      few = omega arith;
+      kept = ∣ record { eight = omega arith; counted = omega arith; each = λ k l. absurd (omega arith) } ∣₁;
+    }

@@ -24,10 +24,12 @@ invariant_of-self c =
     let l = x.lanes in
     let a = asked_ok x.now l c.args.client c.in_ok-waiting.waiting (λ y. length y.waiting) c.in_ok-waiting.ensures in
     let e = submit_leaves x.now l x.full.0 x.full.1 x.full.2 c.args.client a.0 (omega (arith, a.0)) c.args.label c.args.units c.start_at-start.result
-    c.in_ok-waiting.waiting (omega arith) (omega arith) a.1 (omega arith) c.start_at-start.ensures c.index-self-place.result c.push.new.self c.push.ensures in (
-      (x.full.0, length-set l.clocks c.args.client _ ∙ x.full.1, length-set l.queues c.args.client c.push.new.self ∙ x.full.2),
-      (x.few, (∥∥₁_map x.kept (λ g. subst Kept (sym e) (kept_submitted (viewed x.now l) c.args.client c.args.label c.args.units g)), tt)),
-    )
+    c.in_ok-waiting.waiting (omega arith) (omega arith) a.1 (omega arith) c.start_at-start.ensures c.index-self-place.result c.push.new.self c.push.ensures in
+    record {
+      full = (x.full.0, length-set l.clocks c.args.client _ ∙ x.full.1, length-set l.queues c.args.client c.push.new.self ∙ x.full.2);
+      few = x.few;
+      kept = ∥∥₁_map x.kept (λ g. subst Kept (sym e) (kept_submitted (viewed x.now l) c.args.client c.args.label c.args.units g));
+    }
 
 pub returns : goal.returns
 returns c =

@@ -9,19 +9,13 @@ use Rattle.credits.proofs.booking.CreditBooking.new.Goals as goal
 pub invariant_of-result : goal.invariant_of-result
 invariant_of-result c =
     let m = meaning c.new.result in
-    let none = ap (λ (v : Meaning). v.count) c.new.ensures in (
-      refl,
-      (
-        omega arith,
-        (
-          omega arith,
-          (
-            balanced_room m _ _ (balanced_empty m _ _ none),
-            (
-              balanced_capped m 1 _ (balanced_empty m 1 _ none),
-              (∣ subst Unused (sym c.new.ensures) unused_none ∣₁, (balanced_empty m _ _ none, tt)),
-            ),
-          ),
-        ),
-      ),
-    )
+    let none = ap (λ (v : Meaning). v.count) c.new.ensures in
+    record {
+      full = refl;
+      some = omega arith;
+      most = omega arith;
+      room = balanced_room m _ _ (balanced_empty m _ _ none);
+      capped = balanced_capped m 1 _ (balanced_empty m 1 _ none);
+      unused = ∣ subst Unused (sym c.new.ensures) unused_none ∣₁;
+      balanced = balanced_empty m _ _ none;
+    }

@@ -23,25 +23,16 @@ invariant_of-self c =
     let x = c.args.self.now in
     let t = x.table in
     let same = (over x c.args.rate c.args.step c.args.cap c.in_ok-terms.terms c.in_ok-terms.ensures
-    (meaning c.admit.new.self) c.admit.ensures.leaves c.if-not-admit.ensures.answers).0 in (
-      x.full,
-      (
-        x.some,
-        (
-          x.most,
-          (
-            subst (λ (v : Meaning). steps (shares_in v.count t) ≤ t.denominator) (sym same) x.room,
-            (
-              subst (λ (v : Meaning). Capped (shares_in v.count t)) (sym same) x.capped,
-              (
-                subst (λ (v : Meaning). ∥ Unused v ∥₁) (sym same) x.unused,
-                (subst (λ (v : Meaning). ∥ Balanced v t.denominator (shares_in v.count t) ∥₁) (sym same) x.balanced, tt),
-              ),
-            ),
-          ),
-        ),
-      ),
-    )
+    (meaning c.admit.new.self) c.admit.ensures.leaves c.if-not-admit.ensures.answers).0 in
+    record {
+      full = x.full;
+      some = x.some;
+      most = x.most;
+      room = subst (λ (v : Meaning). steps (shares_in v.count t) ≤ t.denominator) (sym same) x.room;
+      capped = subst (λ (v : Meaning). Capped (shares_in v.count t)) (sym same) x.capped;
+      unused = subst (λ (v : Meaning). ∥ Unused v ∥₁) (sym same) x.unused;
+      balanced = subst (λ (v : Meaning). ∥ Balanced v t.denominator (shares_in v.count t) ∥₁) (sym same) x.balanced;
+    }
 
 pub returns-then-not-admit : goal.returns-then-not-admit
 returns-then-not-admit c =
@@ -59,16 +50,16 @@ invariant_of-self-2 c =
     let b = taken_balanced x c.args.rate c.args.step c.args.cap c.in_ok-terms.terms c.in_ok-terms.ensures
     m' c.admit.ensures.leaves c.if-not-admit.ensures.answers c.count-place.result c.count-place.ensures in
     let u = taken_unused x c.args.rate c.args.step c.args.cap c.in_ok-terms.terms c.in_ok-terms.ensures
-    m' c.admit.ensures.leaves c.if-not-admit.ensures.answers in (
-      length-set x.table.places c.count-place.result _ ∙ x.full,
-      (
-        x.some,
-        (
-          x.most,
-          (balanced_room m' x.table.denominator _ b, (balanced_capped m' x.table.denominator _ b, (u, (b, tt)))),
-        ),
-      ),
-    )
+    m' c.admit.ensures.leaves c.if-not-admit.ensures.answers in
+    record {
+      full = length-set x.table.places c.count-place.result _ ∙ x.full;
+      some = x.some;
+      most = x.most;
+      room = balanced_room m' x.table.denominator _ b;
+      capped = balanced_capped m' x.table.denominator _ b;
+      unused = u;
+      balanced = b;
+    }
 
 pub returns : goal.returns
 returns c =

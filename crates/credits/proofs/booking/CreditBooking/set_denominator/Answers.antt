@@ -11,4 +11,12 @@ invariant_of-self c =
     let d = c.args.denominator in
     let r = denominator_ranged d c.if-not-denominator_in_range.ensures in
     let b = balanced_empty m d x.table.places (omega arith) in
-    (tt, (x.full, (r.0, (r.1, (balanced_room m d _ b, (balanced_capped m d _ b, (x.unused, (b, tt))))))))
+    record {
+      full = x.full;
+      some = r.0;
+      most = r.1;
+      room = balanced_room m d _ b;
+      capped = balanced_capped m d _ b;
+      unused = x.unused;
+      balanced = b;
+    }

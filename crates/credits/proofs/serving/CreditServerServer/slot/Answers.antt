@@ -34,16 +34,15 @@ invariant_of-self-2 c =
     let gained : shares_in m'.count t ≡ by_place (earned m x.table.denominator c.served-who.result) 0 (shares_in m.count x.table) =
     ap (λ n. shares_in n t) count ∙ c.earn.ensures.leaves in
     let b = slot_balanced m m' x.table.denominator t.denominator (shares_in m.count x.table) (shares_in m'.count t) c.served-who.result
-    c.served-who.ensures c.earn.ensures.same c.slot.ensures.leaves gained (omega arith) x.some x.clients.kept x.balanced in (
-      c.earn.ensures.full,
-      (
-        omega (arith, x.some, c.earn.ensures.same),
-        (
-          omega (arith, x.most, c.earn.ensures.same),
-          (balanced_room m' t.denominator (shares_in m'.count t) b, (balanced_capped m' t.denominator (shares_in m'.count t) b, (b, tt))),
-        ),
-      ),
-    )
+    c.served-who.ensures c.earn.ensures.same c.slot.ensures.leaves gained (omega arith) x.some x.clients.kept x.balanced in
+    record {
+      full = c.earn.ensures.full;
+      some = omega (arith, x.some, c.earn.ensures.same);
+      most = omega (arith, x.most, c.earn.ensures.same);
+      room = balanced_room m' t.denominator (shares_in m'.count t) b;
+      capped = balanced_capped m' t.denominator (shares_in m'.count t) b;
+      balanced = b;
+    }
 
 pub returns : goal.returns
 returns c =

@@ -9,4 +9,11 @@ invariant_of-self c =
     let m' = meaning c.submit.new.self in
     let D = x.table.denominator in
     let b = submitted_balanced (meaning x.clients) m' D x.table.places c.args.client c.args.label c.args.length x.some c.submit.ensures.leaves x.balanced in
-    (x.full, (x.some, (x.most, (balanced_room m' D _ b, (balanced_capped m' D _ b, (b, tt))))))
+    record {
+      full = x.full;
+      some = x.some;
+      most = x.most;
+      room = balanced_room m' D _ b;
+      capped = balanced_capped m' D _ b;
+      balanced = b;
+    }

@@ -7,16 +7,11 @@ use Rattle.frame.proofs.Bookings.{paced_none}
 use Rattle.frame.proofs.booking.FrameBooking.new.Goals as goal
 
 pub invariant_of-result : goal.invariant_of-result
-invariant_of-result c = (
-  refl,
-  (
-    omega arith,
-    (
-      omega arith,
-      (
-        ∣ subst Unused (sym c.new.ensures) unused_none ∣₁,
-        (∣ paced_none (meaning c.new.result) _ (ap (λ (m : Meaning). m.count) c.new.ensures) ∣₁, tt),
-      ),
-    ),
-  ),
-)
+invariant_of-result c =
+    record {
+      full = refl;
+      some = omega arith;
+      most = omega arith;
+      unused = ∣ subst Unused (sym c.new.ensures) unused_none ∣₁;
+      paced = ∣ paced_none (meaning c.new.result) _ (ap (λ (m : Meaning). m.count) c.new.ensures) ∣₁;
+    }

@@ -30,24 +30,14 @@ invariant_of-self-2 c =
     let n = length_owners x.frame x.full x.some x.most in
     let o : c.owned-owned.result ≡ owned m.count os = c.owned-owned.ensures ∙ ap (λ k. owned k os) c.count.ensures in
     let lo : 1 ≤ length os = omega (arith, n) in
-    let hi : length os ≤ 256 = omega (arith, n) in (
-      x.full,
-      (
-        x.some,
-        (
-          x.most,
-          (
-            unused_kept m os lo hi x.frame.length c.owned-owned.result n o c.args.rate c.if-not-rate_in_range.ensures c.if-rate-slots.false
-                c.latency_of-latency.result c.latency_of-latency.ensures (meaning c.admit.new.self) c.admit.ensures.leaves x.unused,
-            (
-              paced_kept m os lo hi x.frame.length c.owned-owned.result n o c.args.rate c.if-not-rate_in_range.ensures c.if-rate-slots.false
-                  c.latency_of-latency.result c.latency_of-latency.ensures (meaning c.admit.new.self) c.admit.ensures.leaves x.paced,
-              tt,
-            ),
-          ),
-        ),
-      ),
-    )
+    let hi : length os ≤ 256 = omega (arith, n) in
+    record {
+      full = x.full;
+      some = x.some;
+      most = x.most;
+      unused = unused_kept m os lo hi x.frame.length c.owned-owned.result n o c.args.rate c.if-not-rate_in_range.ensures c.if-rate-slots.false c.latency_of-latency.result c.latency_of-latency.ensures (meaning c.admit.new.self) c.admit.ensures.leaves x.unused;
+      paced = paced_kept m os lo hi x.frame.length c.owned-owned.result n o c.args.rate c.if-not-rate_in_range.ensures c.if-rate-slots.false c.latency_of-latency.result c.latency_of-latency.ensures (meaning c.admit.new.self) c.admit.ensures.leaves x.paced;
+    }
 
 pub returns-then-not-admit : goal.returns-then-not-admit
 returns-then-not-admit c =

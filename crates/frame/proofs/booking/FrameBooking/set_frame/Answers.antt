@@ -8,4 +8,10 @@ pub invariant_of-self : goal.invariant_of-self
 invariant_of-self c =
     let x = c.args.self.now in
     let n = frame_sizes c.args.owners.now c.if-not-in_range.ensures in
-    (c.table_of.ensures.full, (n.0, (n.1, (x.unused, (∣ paced_none (meaning x.clients) _ (omega arith) ∣₁, tt)))))
+    record {
+      full = c.table_of.ensures.full;
+      some = n.0;
+      most = n.1;
+      unused = x.unused;
+      paced = ∣ paced_none (meaning x.clients) _ (omega arith) ∣₁;
+    }

@@ -13,4 +13,9 @@ invariant_of-self c =
     let os = owners_in x.frame in
     let owner : c.owner-owner.result ≡ owner_at os m.now = c.owner-owner.ensures ∙ ap (owner_at os) c.now.ensures in
     let after : meaning c.slot.new.self ≡ slot_leaves m (owner_at os m.now) = c.slot.ensures.leaves ∙ ap (slot_leaves m) owner in
-    (x.full, (x.some, (x.most, (paced_after m (meaning c.slot.new.self) os (some_owners x.frame x.full x.some x.most) x.clients.kept x.paced after, tt))))
+    record {
+      full = x.full;
+      some = x.some;
+      most = x.most;
+      paced = paced_after m (meaning c.slot.new.self) os (some_owners x.frame x.full x.some x.most) x.clients.kept x.paced after;
+    }

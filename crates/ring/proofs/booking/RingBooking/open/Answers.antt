@@ -15,20 +15,14 @@ invariant_of-result c =
     let s = b.shares in
     let clients = c.admitted-clients.ensures in
     let turn : c.saturating_sub-turn.result ≡ s.count - 1 = c.saturating_sub-turn.ensures in
-    let ring : ℕ → Ring = λ t. record { total = s.total; quanta = s.quanta; deficits = replicate 8 0; turn = t; opened = false } in (
-      (b.full.1, refl),
-      (
-        omega (arith, turn, b.few),
-        (
-          subst (λ (n : ℕ). sum n (quantum_in s) ≤ s.total) (sym (ap (λ (m : Meaning). m.count) clients)) b.within,
-          (
-            ∣ subst (λ (m : Meaning). Sound m (ring c.saturating_sub-turn.result)) (sym clients)
-                (subst (λ (t : ℕ). Sound (first_clients s s.count) (ring t)) (sym turn) (sound_first s b.few b.within b.carried)) ∣₁,
-            tt,
-          ),
-        ),
-      ),
-    )
+    let ring : ℕ → Ring = λ t. record { total = s.total; quanta = s.quanta; deficits = replicate 8 0; turn = t; opened = false } in
+    record {
+      full = (b.full.1, refl);
+      placed = omega (arith, turn, b.few);
+      within = subst (λ (n : ℕ). sum n (quantum_in s) ≤ s.total) (sym (ap (λ (m : Meaning). m.count) clients)) b.within;
+      sound = ∣ subst (λ (m : Meaning). Sound m (ring c.saturating_sub-turn.result)) (sym clients)
+          (subst (λ (t : ℕ). Sound (first_clients s s.count) (ring t)) (sym turn) (sound_first s b.few b.within b.carried)) ∣₁;
+    }
 
 pub returns : goal.returns
 returns c =

@@ -13,16 +13,13 @@ invariant_of-self c =
     let m = meaning x.clients in
     let m' = meaning c.slot.new.self in
     let after = c.slot.ensures.leaves in
-    let turn = c.in_default.ensures in (
-      x.full,
-      (
-        x.placed,
-        (
-          slot_within m x.ring None turn m' x.ring after (idle_ring m x.ring) x.within,
-          (slot_sound m x.ring None turn m' x.ring after (idle_ring m x.ring) x.clients.kept x.full.1 x.within x.sound, tt),
-        ),
-      ),
-    )
+    let turn = c.in_default.ensures in
+    record {
+      full = x.full;
+      placed = x.placed;
+      within = slot_within m x.ring None turn m' x.ring after (idle_ring m x.ring) x.within;
+      sound = slot_sound m x.ring None turn m' x.ring after (idle_ring m x.ring) x.clients.kept x.full.1 x.within x.sound;
+    }
 
 pub returns-in_default : goal.returns-in_default
 returns-in_default c =
@@ -70,16 +67,13 @@ invariant_of-self-2 c =
     let after = c.in_ok-served.ensures.leaves in
     let ring = served_ring m x.ring x.sound c.in-Some.client turn c.length_of.result c.begun_with-begun.result c.in_ok-served.served m' c.front-2.result c.rest_given-rest.result
     (c.length_of.ensures ∙ ap length_of c.front.ensures) c.begun_with-begun.ensures c.in_ok-served.ensures.answers after c.front-2.ensures c.rest_given-rest.ensures in
-    let r' = turn_to x.ring c.in-Some.client c.rest_given-rest.result in (
-      (x.full.0, length-set x.ring.deficits c.in-Some.client c.rest_given-rest.result.deficit ∙ x.full.1),
-      (
-        turn_eight m x.ring x.clients.kept x.sound c.in-Some.client turn,
-        (
-          slot_within m x.ring who turn m' r' after ring x.within,
-          (slot_sound m x.ring who turn m' r' after ring x.clients.kept x.full.1 x.within x.sound, tt),
-        ),
-      ),
-    )
+    let r' = turn_to x.ring c.in-Some.client c.rest_given-rest.result in
+    record {
+      full = (x.full.0, length-set x.ring.deficits c.in-Some.client c.rest_given-rest.result.deficit ∙ x.full.1);
+      placed = turn_eight m x.ring x.clients.kept x.sound c.in-Some.client turn;
+      within = slot_within m x.ring who turn m' r' after ring x.within;
+      sound = slot_sound m x.ring who turn m' r' after ring x.clients.kept x.full.1 x.within x.sound;
+    }
 
 pub returns : goal.returns
 returns c =
