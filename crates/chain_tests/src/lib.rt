@@ -7,14 +7,14 @@ mod tests {
     use book::driving::join_and_drive;
     use clients::booking::BookingRefusal;
     use credits::booking::CreditBooking;
-    use credits::server::CreditServer;
+    use credits::credit_server::CreditServer;
     use frame::booking::FrameBooking;
-    use frame::server::FrameServer;
+    use frame::frame_server::FrameServer;
     use join::chain::Chain;
     use join::fit::Misfit;
     use join::fitting::fit;
     use ring::booking::RingBooking;
-    use ring::server::RingServer;
+    use ring::ring_server::RingServer;
     use server::block::Served;
     use server::rate::Rate;
     use server::refusal::Refusal;

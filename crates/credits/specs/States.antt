@@ -12,7 +12,7 @@ use Rattle.clients.specs.Meant.{meaning}
 use Rattle.clients.specs.Serving.{no_clients, rate_ok, admitted, slot_says, slot_leaves}
 use Rattle.credits.specs.declared.shares.Share.{Share}
 use Rattle.credits.specs.declared.booking.CreditBooking.{CreditBooking}
-use Rattle.credits.specs.declared.server.CreditServer.{CreditServer}
+use Rattle.credits.specs.declared.credit_server.CreditServer.{CreditServer}
 use Rattle.credits.specs.Shares.{shares_in, steps, caps, theta, by_place, served, earned}
 
 -- the clients, the denominator, and each client's share, highest priority first

@@ -10,7 +10,7 @@ impl Shares {
     pub(crate) fn served(&self, clients: &Clients) -> Option<u8>
         requires places { ((meaning clients.now).count ≤ 8) × (size self.now.places ≡ 8) }
         requires small { Small (shares_in (meaning clients.now).count self.now) }
-        ensures { result ≡ served_of (meaning clients.now) self.now.denominator (shares_in (meaning clients.now).count self.now) }
+        ensures { result ≡ served_of (meaning clients.entry.now) self.now.denominator (shares_in (meaning clients.entry.now).count self.now) }
     {
         let byte = self.eligible(clients);
         if byte == 0 {
@@ -24,7 +24,7 @@ impl Shares {
     fn eligible(&self, clients: &Clients) -> u8
         requires places { ((meaning clients.now).count ≤ 8) × (size self.now.places ≡ 8) }
         requires small { Small (shares_in (meaning clients.now).count self.now) }
-        ensures { result ≡ byte_of (by_place (eligible_in (meaning clients.now) self.now.denominator) 0 (shares_in (meaning clients.now).count self.now)) }
+        ensures { result ≡ byte_of (by_place (eligible_in (meaning clients.entry.now) self.now.denominator) 0 (shares_in (meaning clients.entry.now).count self.now)) }
     {
         let mut byte = 0u8;
         for client in 0..clients.count() {
@@ -44,7 +44,7 @@ impl Shares {
 // Whether the client has a waiting block, and its share pays for a unit.
 fn is_eligible(clients: &Clients, client: u8, share: Share, denominator: u32) -> bool
     requires { share.credit + share.step < 2 ^ 32 }
-    ensures { result ≡ eligible_in (meaning clients.now) denominator client share }
+    ensures { result ≡ eligible_in (meaning clients.entry.now) denominator client share }
 {
     clients.waits(client) && share.credit + share.step >= denominator
 }

@@ -13,7 +13,7 @@ impl Shares {
         requires pays { Pays self.old.denominator who (shares_in (meaning clients.now).count self.old) }
         ensures full { size self.new.places ≡ 8 }
         ensures same { self.new.denominator ≡ self.old.denominator }
-        ensures leaves { shares_in (meaning clients.now).count self.new ≡ by_place (earned (meaning clients.now) self.old.denominator who) 0 (shares_in (meaning clients.now).count self.old) }
+        ensures leaves { shares_in (meaning clients.entry.now).count self.new ≡ by_place (earned (meaning clients.entry.now) self.old.denominator who) 0 (shares_in (meaning clients.entry.now).count self.old) }
     {
         let denominator = self.denominator;
         for client in 0..clients.count() {

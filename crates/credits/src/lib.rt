@@ -6,6 +6,6 @@ pub mod booking;
 mod choosing;
 mod earning;
 mod reserving;
-pub mod server;
+pub mod credit_server;
 pub mod serving;
 pub mod shares;

@@ -4,7 +4,7 @@ ghost use Rattle.credits.specs.Shares.{steps as steps_of, caps as caps_of, theta
 ghost use Rattle.credits.specs.States.{booked_in, state_of, fresh, denominator_ok, denominator_says, denominator_set, share_ok, terms_say, reserve_says, reserved};
 
 use crate::booking::CreditBooking;
-use crate::server::CreditServer;
+use crate::credit_server::CreditServer;
 use crate::shares::{Share, Shares};
 use clients::booking::BookingRefusal;
 use clients::table::Clients;

@@ -5,7 +5,7 @@ ghost use Rattle.clients.specs.Meant.{meaning};
 ghost use Rattle.credits.specs.Shares.{shares_in};
 ghost use Rattle.credits.specs.Balancing.{balanced_lawful};
 
-use crate::server::CreditServer;
+use crate::credit_server::CreditServer;
 use server::block::Served;
 use server::rate::Rate;
 use server::refusal::Refusal;

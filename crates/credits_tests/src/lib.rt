@@ -6,7 +6,7 @@
 mod tests {
     use clients::booking::BookingRefusal;
     use credits::booking::CreditBooking;
-    use credits::server::CreditServer;
+    use credits::credit_server::CreditServer;
     use server::block::Served;
     use server::rate::Rate;
     use server::refusal::Refusal;

@@ -10,7 +10,7 @@ use Rattle.clients.specs.Held.{latency_for}
 use Rattle.clients.specs.Meant.{meaning}
 use Rattle.clients.specs.Serving.{no_clients, rate_ok, admitted, slot_says, slot_leaves}
 use Rattle.frame.specs.declared.booking.FrameBooking.{FrameBooking}
-use Rattle.frame.specs.declared.server.FrameServer.{FrameServer}
+use Rattle.frame.specs.declared.frame_server.FrameServer.{FrameServer}
 use Rattle.frame.specs.Frames.{owners_in, owner_at, owned, theta, frame_ok}
 
 -- the clients, and the owners of the frame's slots

@@ -6,5 +6,5 @@ pub mod booking;
 mod looking;
 pub mod owners;
 mod reserving;
-pub mod server;
+pub mod frame_server;
 pub mod serving;

@@ -5,7 +5,7 @@ ghost use Rattle.frame.specs.States.{booked_in, state_of, fresh, frame_says, fra
 use crate::booking::FrameBooking;
 use crate::looking::{in_range, table_of};
 use crate::owners::Frame;
-use crate::server::FrameServer;
+use crate::frame_server::FrameServer;
 use clients::booking::BookingRefusal;
 use clients::table::Clients;
 use clients::ticks::{latency_of, rate_in_range};

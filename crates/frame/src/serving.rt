@@ -7,7 +7,7 @@ ghost use Rattle.frame.specs.Frames.{owners_in};
 ghost use Rattle.frame.specs.Pacing.{paced_lawful};
 ghost use Rattle.frame.specs.FramesLemmas.{some_owners};
 
-use crate::server::FrameServer;
+use crate::frame_server::FrameServer;
 use server::block::Served;
 use server::rate::Rate;
 use server::refusal::Refusal;

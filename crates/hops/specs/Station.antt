@@ -2,11 +2,11 @@
 use Rattle.std.specs.Prelude.{ℕ}
 use Rattle.server.specs.Meaning.{Meaning}
 use Rattle.server.specs.Machine.{Machine}
-use Rattle.frame.specs.declared.server.FrameServer.{FrameServer}
+use Rattle.frame.specs.declared.frame_server.FrameServer.{FrameServer}
 use Rattle.frame.specs.States.{State as Framed, state_of as frame_state, frame_machine}
-use Rattle.credits.specs.declared.server.CreditServer.{CreditServer}
+use Rattle.credits.specs.declared.credit_server.CreditServer.{CreditServer}
 use Rattle.credits.specs.States.{State as Credited, state_of as credit_state, credit_machine}
-use Rattle.ring.specs.declared.server.RingServer.{RingServer}
+use Rattle.ring.specs.declared.ring_server.RingServer.{RingServer}
 use Rattle.ring.specs.States.{State as Turning, state_of as ring_state, ring_machine, opened_from}
 use Rattle.join.specs.declared.chain.Chain.{Chain}
 use Rattle.join.specs.Starts.{starts_in}

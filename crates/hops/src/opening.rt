@@ -4,12 +4,12 @@ ghost use Rattle.hops.specs.Station.{whole_of, opened, Standing};
 
 use crate::hops::Hops;
 use credits::booking::CreditBooking;
-use credits::server::CreditServer;
+use credits::credit_server::CreditServer;
 use frame::booking::FrameBooking;
-use frame::server::FrameServer;
+use frame::frame_server::FrameServer;
 use join::chain::Chain;
 use ring::booking::RingBooking;
-use ring::server::RingServer;
+use ring::ring_server::RingServer;
 
 impl Hops {
     /// Nothing is booked.

@@ -1,9 +1,9 @@
 use credits::booking::CreditBooking;
-use credits::server::CreditServer;
+use credits::credit_server::CreditServer;
 use frame::booking::FrameBooking;
-use frame::server::FrameServer;
+use frame::frame_server::FrameServer;
 use ring::booking::RingBooking;
-use ring::server::RingServer;
+use ring::ring_server::RingServer;
 use server::rate::Rate;
 
 // What telemetry and science reserve on every hop, in this order. A reservation that was refused would

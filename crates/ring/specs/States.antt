@@ -12,7 +12,7 @@ use Rattle.clients.specs.Serving.{new_client, rate_ok, slot_says, slot_leaves}
 use Rattle.ring.specs.declared.shares.Shares.{Shares}
 use Rattle.ring.specs.declared.turns.Ring.{Ring}
 use Rattle.ring.specs.declared.booking.RingBooking.{RingBooking}
-use Rattle.ring.specs.declared.server.RingServer.{RingServer}
+use Rattle.ring.specs.declared.ring_server.RingServer.{RingServer}
 use Rattle.ring.specs.Shares.{total_ok, quantum_ok, carries, room, terms_in}
 use Rattle.ring.specs.Turns.{turn_in, ring_after}
 

@@ -5,7 +5,7 @@
 pub mod booking;
 mod reserving;
 mod searching;
-pub mod server;
+pub mod ring_server;
 pub mod serving;
 pub mod shares;
 pub mod turns;

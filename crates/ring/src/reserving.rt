@@ -6,7 +6,7 @@ ghost use Rattle.ring.specs.Shares.{quantum_in, total_ok, quantum_ok, theta as t
 ghost use Rattle.ring.specs.States.{booked_in, state_of, fresh, total_says, total_set, reserve_says, reserved, first_clients, opened_from};
 
 use crate::booking::RingBooking;
-use crate::server::RingServer;
+use crate::ring_server::RingServer;
 use crate::shares::Shares;
 use crate::turns::Ring;
 use clients::booking::BookingRefusal;

@@ -18,7 +18,7 @@ fn after(count: u8, client: u8) -> u8
 // The first client that has a block, round the ring from the one after `turn`.
 pub(crate) fn first_waiting(clients: &Clients, turn: u8) -> Option<u8>
     requires { turn < 8 }
-    ensures { result ≡ seek (meaning clients.now).count (waits (meaning clients.now)) (meaning clients.now).count (next_of (meaning clients.now).count turn) }
+    ensures { result ≡ seek (meaning clients.entry.now).count (waits (meaning clients.entry.now)) (meaning clients.entry.now).count (next_of (meaning clients.entry.now).count turn) }
 {
     let count = clients.count();
     let mut client = after(count, turn);

@@ -6,7 +6,7 @@
 mod tests {
     use clients::booking::BookingRefusal;
     use ring::booking::RingBooking;
-    use ring::server::RingServer;
+    use ring::ring_server::RingServer;
     use server::block::Served;
     use server::rate::Rate;
     use server::refusal::Refusal;

@@ -13,7 +13,7 @@ use Rattle.credits.proofs.booking.CreditBooking.reserve.Goals as goal
 
 pub returns-in_err-terms : goal.returns-in_err-terms
 returns-in_err-terms c =
-    let p = err_from_is_err_and c.from-residual.result c.from-residual.ensures.1 in
+    let p = err_from_is_err_and c.from_residual.result c.from_residual.ensures.1 in
     let a = against c.args.self.now c.args.rate c.args.step c.args.cap c.in_err-terms.field-0.0 c.in_err-terms.ensures in
     let said : BookingRefusal → Answer = λ r. Err r in
     record { answers = p.1 ∙ ap said p.2 ∙ a.0; leaves = a.1 }

@@ -47,9 +47,9 @@ returns-in_err-served c =
     let m = meaning x.clients in
     let who = Some c.in-Some.client in
     let says = c.in_err-served.ensures.answers in
-    let answer : c.from-residual.result ≡ slot_says m (Some c.in-Some.client) = search rules in
+    let answer : c.from_residual.result ≡ slot_says m (Some c.in-Some.client) = search rules in
     let g = slot_is m x.ring who c.in-Some.ensures (meaning c.slot-2.new.self) x.ring c.in_err-served.ensures.leaves
-    (refused_ring m x.ring who c.in_err-served.field-0.0 says) c.from-residual.result x.clients.kept answer in
+    (refused_ring m x.ring who c.in_err-served.field-0.0 says) c.from_residual.result x.clients.kept answer in
     record { serves = λ _. g.0; stays = λ _. tt; exactly = λ _ _. g.1 }
 
 pub bounds-self-client : goal.bounds-self-client
