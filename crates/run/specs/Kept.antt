@@ -1,9 +1,9 @@
 -- What a log promises: each client's blocks depart in the order of their grants, by their dues. Assumes nothing.
 use Rattle.std.specs.Prelude.{◌≡◌, ℕ, ◌<◌, ◌≤◌, cond, List, [], ◌∷◌, ◌==◌}
-use Rattle.log.specs.declared.line.GrantLine.{GrantLine}
-use Rattle.log.specs.declared.line.DepartureLine.{DepartureLine}
-use Rattle.log.specs.declared.line.Line.{Line}
-use Rattle.log.specs.declared.line.Line.TheVariants.{Latency, Grant, Refusal, Departure}
+use Rattle.logs.specs.declared.line.GrantLine.{GrantLine}
+use Rattle.logs.specs.declared.line.DepartureLine.{DepartureLine}
+use Rattle.logs.specs.declared.line.Line.{Line}
+use Rattle.logs.specs.declared.line.Line.TheVariants.{Latency, Grant, Refusal, Departure}
 
 -- the grants of client k, in their order
 abbrev pub grants_of : ℕ → List Line → List GrantLine

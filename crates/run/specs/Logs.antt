@@ -5,8 +5,8 @@ use Rattle.server.specs.Refusals.{number_of}
 use Rattle.server.specs.declared.block.Served.TheVariants.{Nothing, Unit as OneUnit, Departed}
 use Rattle.book.specs.declared.calls.Event.{Event}
 use Rattle.book.specs.declared.calls.Event.TheVariants.{Submit, Slot, Ask}
-use Rattle.log.specs.declared.line.Line.{Line}
-use Rattle.log.specs.declared.line.Line.TheVariants.{Latency, Grant, Refusal, Departure}
+use Rattle.logs.specs.declared.line.Line.{Line}
+use Rattle.logs.specs.declared.line.Line.TheVariants.{Latency, Grant, Refusal, Departure}
 
 -- the slot after an event
 abbrev pub after : ℕ → Event → ℕ

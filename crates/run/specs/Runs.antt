@@ -5,7 +5,7 @@ use Rattle.server.specs.Meaning.{Meaning}
 use Rattle.book.specs.declared.calls.Call.{Call}
 use Rattle.book.specs.declared.calls.Event.{Event}
 use Rattle.book.specs.Runs.{call_of, Run, history, ending}
-use Rattle.log.specs.declared.line.Line.{Line}
+use Rattle.logs.specs.declared.line.Line.{Line}
 use Rattle.run.specs.Logs.{lines_from}
 
 -- these calls lead from one sound server to another, and what they make is written behind what was there

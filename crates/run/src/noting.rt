@@ -4,7 +4,7 @@ ghost use Rattle.server.specs.Calls.{asked};
 ghost use Rattle.run.specs.Logs.{line_of, latency_line};
 
 use book::calls::Event;
-use log::{DepartureLine, GrantLine, LatencyLine, Line, RefusalLine};
+use logs::{DepartureLine, GrantLine, LatencyLine, Line, RefusalLine};
 use server::block::Served;
 use server::rate::Rate;
 use server::refusal::Refusal;

@@ -13,7 +13,7 @@ use crate::noting::{latency_line, line_of};
 use book::calls::{Call, Order};
 use book::driving::make;
 use lines::{Request, Table};
-use log::{DepartureLine, Line};
+use logs::{DepartureLine, Line};
 use server::server::Server;
 
 /// Makes one call and writes its line, if it has one.

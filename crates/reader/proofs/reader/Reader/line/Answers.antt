@@ -22,4 +22,6 @@ returns c =
 
 pub invariant_of-self : goal.invariant_of-self
 invariant_of-self c =
-    (omega (arith, left_length c.args.self.now.bytes.now c.rest-rest.result.now c.args.self.now.place c.rest-rest.ensures c.args.self.now.within), tt)
+    record {
+      within = omega (arith, left_length c.args.self.now.bytes.now c.rest-rest.result.now c.args.self.now.place c.rest-rest.ensures c.args.self.now.within);
+    }

@@ -1,7 +1,7 @@
 -- The bytes of a log. Assumes nothing.
 use Rattle.std.specs.Prelude.{ℕ, List, [], ◌∷◌, ◌++◌, Some, None, decimal, Option}
-use Rattle.log.specs.declared.line.Line.{Line}
-use Rattle.log.specs.declared.line.Line.TheVariants.{Latency, Grant, Refusal, Departure}
+use Rattle.logs.specs.declared.line.Line.{Line}
+use Rattle.logs.specs.declared.line.Line.TheVariants.{Latency, Grant, Refusal, Departure}
 
 -- fields behind the letter, each behind a comma, and byte 10 at the end
 abbrev pub fields : List (List ℕ) → List ℕ
