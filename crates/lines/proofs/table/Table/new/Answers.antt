@@ -3,4 +3,4 @@ use lib.ListN.{length-replicate}
 use Rattle.std.proofs.Common.{arith}
 
 pub invariant_of-result : goal.invariant_of-result
-invariant_of-result g c = (length-replicate g.row.N c.args.fill, (omega arith, tt))
+invariant_of-result g c = record { full = length-replicate g.row.N c.args.fill; few = omega arith }
