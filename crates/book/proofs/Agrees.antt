@@ -1,14 +1,13 @@
 -- The book and the server's meaning go together, call by call.
-use Rattle.std.proofs.Common.{◌≡◌, ℕ, zero, suc, ◌+◌, ◌-◌, ◌*◌, ◌/◌, ◌<◌, ◌≤◌, max, Bool, true, false, cond, ◌&&◌, eqb, ltb, leb, List, [], ◌∷◌, ◌++◌, length, drop, Ok, Err, Result, sym, refl, ap, ◌∙◌, subst, arith, eqb-true}
+use Rattle.std.proofs.Common.{◌≡◌, ℕ, ◌+◌, ◌*◌, ◌<◌, ◌≤◌, max, Bool, true, false, cond, ◌&&◌, eqb, ltb, List, [], ◌∷◌, ◌++◌, length, drop, Ok, Err, sym, refl, ap, ◌∙◌, subst, arith, eqb-true}
 use Rattle.server.specs.declared.block.Block.{Block}
-use Rattle.server.specs.declared.block.Departure.{Departure}
 use Rattle.server.specs.declared.block.Served.{Served}
 use Rattle.server.specs.declared.block.Served.TheVariants.{Nothing, Unit as OneUnit, Departed}
 use Rattle.server.specs.declared.rate.Rate.{Rate}
 use Rattle.server.specs.declared.refusal.Refusal.{Refusal}
 use Rattle.server.specs.declared.refusal.Refusal.TheVariants.{NoClient, BadLength, Full}
 use Rattle.server.specs.Meaning.{Client, Meaning}
-use Rattle.server.specs.Calls.{DueAnswer, SlotAnswer, start_at, due_of, new_block, entered, length_ok, granting, granted, submitted, at, one_less, served, gone, serve, ticked, served_to, Serves, Went, Slotted}
+use Rattle.server.specs.Calls.{DueAnswer, start_at, due_of, new_block, entered, length_ok, granting, granted, at, one_less, served, gone, serve, Went}
 use Rattle.server.specs.Laws.{Each, ClientLaws, Lawful}
 use Rattle.server.proofs.Answers.{departs, block_departs, unit_stays}
 use Rattle.book.specs.declared.calls.Order.{Order}

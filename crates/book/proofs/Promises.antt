@@ -1,19 +1,19 @@
 -- Whatever calls a lawful server meets, from unused on, its book shows what is promised.
-use Rattle.std.proofs.Common.{◌≡◌, ℕ, ◌+◌, ◌*◌, ◌/◌, ◌<◌, ◌≤◌, Bool, true, false, cond, ◌&&◌, eqb, ltb, List, [], ◌∷◌, ◌++◌, length, drop, Ok, Err, sym, refl, ap, ◌∙◌, subst, append_assoc, arith, ltb-true, eq-eqb}
+use Rattle.std.proofs.Common.{◌≡◌, ℕ, ◌+◌, ◌*◌, ◌<◌, ◌≤◌, Bool, true, false, cond, ltb, List, [], ◌∷◌, ◌++◌, length, drop, Ok, Err, sym, refl, ap, ◌∙◌, subst, append_assoc, arith, ltb-true, eq-eqb}
 use Rattle.server.specs.declared.block.Block.{Block}
 use Rattle.server.specs.declared.block.Departure.{Departure}
 use Rattle.server.specs.declared.block.Served.TheVariants.{Departed}
 use Rattle.server.specs.declared.rate.Rate.{Rate}
 use Rattle.server.specs.declared.refusal.Refusal.TheVariants.{NoClient, BadLength, Full}
-use Rattle.server.specs.Meaning.{Client, Meaning}
-use Rattle.server.specs.Calls.{DueAnswer, start_at, due_of, length_ok, granting, gone, Serves}
+use Rattle.server.specs.Meaning.{Meaning}
+use Rattle.server.specs.Calls.{DueAnswer, start_at, due_of, length_ok, granting, gone}
 use Rattle.server.specs.Laws.{Lawful, Unused}
 use Rattle.server.proofs.Answers.{departed_is}
 use Rattle.book.specs.declared.calls.Order.{Order}
 use Rattle.book.specs.declared.calls.Event.{Event}
-use Rattle.book.specs.declared.calls.Event.TheVariants.{Submit, Slot, Ask}
-use Rattle.book.specs.Book.{Entry, Gone, Account, Book, opened, enter, fed, read, GoneNear, WaitingNear, units, Idle, Lasts, entry_of, Promised}
-use Rattle.book.specs.Runs.{Takes, Run}
+use Rattle.book.specs.declared.calls.Event.TheVariants.{Submit, Slot}
+use Rattle.book.specs.Book.{Entry, Book, opened, enter, fed, read, GoneNear, WaitingNear, units, Idle, Lasts, entry_of, Promised}
+use Rattle.book.specs.Runs.{Run}
 use Rattle.book.proofs.Stretches.{Stretch, stretch_begins, stretch_through, stretch_carries}
 use Rattle.book.proofs.Agrees.{entries, Agree, agree_takes, agree_near}
 

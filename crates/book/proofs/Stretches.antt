@@ -1,14 +1,13 @@
 -- A busy stretch in the book alone: its starts stand one behind the other while it lasts.
-use Rattle.std.proofs.Common.{◌≡◌, ℕ, zero, suc, ◌+◌, ◌*◌, ◌<◌, ◌≤◌, max, Bool, true, false, cond, eqb, List, [], ◌∷◌, ◌++◌, length, drop, Ok, Err, sym, refl, ap, ◌∙◌, subst, append-nil, mul-le-mul_left, mul-zero, mul-add, arith, length-append}
+use Rattle.std.proofs.Common.{◌≡◌, ℕ, ◌+◌, ◌*◌, ◌≤◌, Bool, true, false, cond, eqb, List, [], ◌∷◌, ◌++◌, length, drop, Ok, Err, sym, ap, ◌∙◌, subst, append-nil, mul-le-mul_left, mul-zero, mul-add, arith, length-append}
 use lib.Seq.{drop-append-le}
 use Rattle.std.proofs.lemmas.List.{drop_all}
-use Rattle.server.specs.declared.block.Served.{Served}
 use Rattle.server.specs.declared.block.Served.TheVariants.{Nothing, Unit as OneUnit, Departed}
 use Rattle.server.specs.declared.rate.Rate.{Rate}
 use Rattle.book.specs.declared.calls.Order.{Order}
 use Rattle.book.specs.declared.calls.Event.{Event}
 use Rattle.book.specs.declared.calls.Event.TheVariants.{Submit, Slot, Ask}
-use Rattle.book.specs.Book.{Entry, Gone, Account, Book, start_in, enter, oldest, depart, change, pass, fed, read, WaitingNear, units, Lasts}
+use Rattle.book.specs.Book.{Entry, Gone, Account, Book, start_in, enter, oldest, depart, change, fed, read, WaitingNear, units, Lasts}
 
 -- the waiting blocks start one behind the other from tick `base` on, and the clock stands behind the last
 abbrev Gapless : (q base : ℕ) → List Entry → ℕ → Type 0

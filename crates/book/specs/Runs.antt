@@ -1,5 +1,5 @@
 -- What a server's calls are to its meaning, and runs of them. Assumes nothing.
-use Rattle.std.specs.Prelude.{◌≡◌, ℕ, List, [], ◌∷◌, length}
+use Rattle.std.specs.Prelude.{◌≡◌, List, [], ◌∷◌, length}
 use Rattle.server.specs.Meaning.{Meaning}
 use Rattle.server.specs.Calls.{asked, granting, submitted, Slotted}
 use Rattle.server.specs.Laws.{Lawful}

@@ -2,6 +2,7 @@
 // credits, and a ring. Each hop is booked for the same three sources, takes the burst, and serves it slot by
 // slot until every block has left. The output tells what was refused, and for each block how early it left.
 #![tactic(auto)]
+
 mod bookings;
 mod grants;
 mod serving;

@@ -1,6 +1,7 @@
 // Servers and their chains by example: starts, clocks and dues worked out by hand, each refusal by its
 // number, the latencies of a small station, joins that do not fit, and the same hops in two brackets.
 #![tactic(auto)]
+
 #[cfg(test)]
 mod tests {
     use book::calls::{Call, Event, Order};

@@ -1,10 +1,10 @@
 -- One client through the calls: what is kept whoever is served, and the laws of a client that is on time.
-use Rattle.std.proofs.Common.{◌≡◌, ℕ, ◌+◌, ◌-◌, ◌*◌, ◌^◌, ◌<◌, ◌≤◌, max, List, [], ◌∷◌, ◌++◌, length, sym, refl, ap, ◌∙◌, subst, mul-le-mul, mul-le-mul_left, arith, length-append}
+use Rattle.std.proofs.Common.{◌≡◌, ℕ, ◌+◌, ◌*◌, ◌^◌, ◌<◌, ◌≤◌, [], ◌∷◌, ◌++◌, length, sym, ap, subst, mul-le-mul, mul-le-mul_left, arith, length-append}
 use native.Mathlib.Nat.{le-max_right}
 use Rattle.server.specs.declared.block.Block.{Block}
 use Rattle.server.specs.declared.rate.Terms.{Terms}
 use Rattle.server.specs.Meaning.{Client, units_left}
-use Rattle.server.specs.Calls.{served, serve, entered, new_block, start_at}
+use Rattle.server.specs.Calls.{served, serve, entered, new_block}
 use Rattle.server.specs.Laws.{Each, Shaped, Ranged, ClientLaws}
 use Rattle.clients.specs.Held.{Held, OnTime, reach, latency_for}
 use Rattle.clients.specs.Serving.{new_client}

@@ -1,16 +1,16 @@
 -- What every scheduler's clients keep through the calls, and that a slot for a chosen client is a slot.
-use Rattle.std.proofs.Common.{◌≡◌, ℕ, zero, suc, ◌+◌, ◌<◌, ◌≤◌, Bool, true, false, cond, ◌&&◌, eqb, ltb, leb, List, [], ◌∷◌, length, Some, None, Ok, Err, Option, sym, refl, ap, ◌∙◌, subst, arith, ltb-false, ltb-true, lt-ltb, le-leb, leb-false, leb-true}
+use Rattle.std.proofs.Common.{◌≡◌, ℕ, ◌+◌, ◌<◌, ◌≤◌, Bool, true, false, cond, ◌&&◌, ltb, leb, List, [], ◌∷◌, length, Some, None, Ok, Err, Option, sym, refl, ap, ◌∙◌, subst, arith, ltb-false, ltb-true, lt-ltb, le-leb, leb-true}
 use Rattle.std.proofs.lemmas.Bool.{and_parts}
 use Rattle.std.proofs.lemmas.Bool.Decides.{nat_tests}
 use Rattle.server.specs.declared.block.Block.{Block}
 use Rattle.server.specs.declared.block.Departure.{Departure}
 use Rattle.server.specs.declared.block.Served.{Served}
-use Rattle.server.specs.declared.block.Served.TheVariants.{Nothing, Unit as OneUnit, Departed}
+use Rattle.server.specs.declared.block.Served.TheVariants.{Unit as OneUnit, Departed}
 use Rattle.server.specs.declared.rate.Rate.{Rate}
 use Rattle.server.specs.declared.rate.Terms.{Terms}
 use Rattle.server.specs.declared.refusal.Refusal.TheVariants.{Ended}
 use Rattle.server.specs.Meaning.{Client, Meaning}
-use Rattle.server.specs.Calls.{SlotAnswer, length_ok, granted, granting, due_of, start_at, submitted, entered, at, gone, serve, ticked, served_to, Serves, Went, Slotted}
+use Rattle.server.specs.Calls.{SlotAnswer, length_ok, granted, granting, due_of, start_at, submitted, entered, at, gone, serve, ticked, served_to, Went, Slotted}
 use Rattle.server.specs.Laws.{Ranged, Unused}
 use Rattle.server.proofs.Meanings.{at_elim}
 use Rattle.clients.specs.Held.{Held, Kept}

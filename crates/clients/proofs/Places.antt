@@ -1,24 +1,23 @@
 -- The places of the table as clients: what a write to one place makes of the meaning.
-use Rattle.std.proofs.Common.{◌≡◌, ℕ, ◌+◌, ◌*◌, ◌/◌, ◌^◌, ◌<◌, ◌≤◌, min, max, Bool, true, false, cond, ◌&&◌, ltb, leb, ◌≢◌, List, [], ◌∷◌, ◌++◌, map, length, get_or, set, Some, None, Ok, Err, Option, Result, sym, refl, ap, ◌∙◌, subst, mul-le-mul, arith, ltb-true, lt-ltb, le-leb}
-use mathlib.Core.Logic.{∥∥₁_elim, ∥∥₁_map}
+use Rattle.std.proofs.Common.{◌≡◌, ℕ, ◌+◌, ◌*◌, ◌/◌, ◌^◌, ◌<◌, ◌≤◌, min, Bool, true, false, cond, ◌&&◌, ltb, leb, ◌≢◌, List, [], ◌∷◌, ◌++◌, map, length, get_or, set, Some, None, Ok, Err, Option, Result, sym, refl, ap, ◌∙◌, mul-le-mul, arith, ltb-true, lt-ltb, le-leb}
+use mathlib.Core.Logic.{∥∥₁_elim}
 use native.Mathlib.Bridge.{le_prop}
 use native.Mathlib.Nat.{min-eq_left}
 use lib.ListN.{length-map}
 use lib.Seq.{map-set}
-use Rattle.std.proofs.lemmas.List.{get_or-map, get_or-set_same, get_or-set_other, get_or_read}
+use Rattle.std.proofs.lemmas.List.{get_or-map, get_or-set_same, get_or-set_other}
 use Rattle.server.specs.declared.block.Block.{Block}
 use Rattle.server.specs.declared.block.Served.{Served}
-use Rattle.server.specs.declared.block.Served.TheVariants.{Nothing}
 use Rattle.server.specs.declared.rate.Terms.{Terms}
 use Rattle.server.specs.declared.refusal.Refusal.{Refusal}
-use Rattle.server.specs.declared.refusal.Refusal.TheVariants.{NoClient, BadLength, Full, Ended}
+use Rattle.server.specs.declared.refusal.Refusal.TheVariants.{NoClient, Ended}
 use Rattle.server.specs.Meaning.{Client, Meaning}
-use Rattle.server.specs.Calls.{DueAnswer, SlotAnswer, asked, at, length_ok, granted, granting, submitted, entered, due_of, start_at, new_block, gone, served, serve, ticked, served_to}
+use Rattle.server.specs.Calls.{DueAnswer, SlotAnswer, asked, at, granted, granting, submitted, entered, due_of, start_at, gone, served, serve}
 use Rattle.server.proofs.Meanings.{at_is}
 use Rattle.clients.specs.declared.queue.Queue.{Queue}
 use Rattle.clients.specs.declared.lanes.Lanes.{Lanes}
 use Rattle.clients.specs.View.{waiting_in, client_in, viewed, vacant}
-use Rattle.clients.specs.Held.{Held, Kept}
+use Rattle.clients.specs.Held.{Kept}
 use Rattle.clients.specs.Serving.{new_client, terms_ok, admits, admitted, waits, served_client, gives, goes_on, slot_says, slot_leaves, front_of, front_at}
 use Rattle.clients.proofs.Clients.{clock_small}
 use Rattle.clients.proofs.Kept.{granting_is}

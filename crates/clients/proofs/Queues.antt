@@ -1,8 +1,7 @@
 -- The array of a queue as the row of its waiting blocks.
-use Rattle.std.proofs.Common.{◌≡◌, ℕ, zero, suc, ◌+◌, ◌-◌, ◌<◌, ◌≤◌, Bool, true, false, cond, leb, List, [], ◌∷◌, ◌++◌, length, get_or, take, drop, set, Some, sym, refl, ap, ◌∙◌, subst, arith, le-leb}
+use Rattle.std.proofs.Common.{◌≡◌, ℕ, zero, suc, ◌-◌, ◌<◌, ◌≤◌, true, false, leb, List, [], ◌∷◌, ◌++◌, length, get_or, take, drop, set, Some, refl, arith, le-leb}
 use borrow.Author.Tests.{lt-leb}
 use Rattle.server.specs.declared.block.Block.{Block}
-use Rattle.server.specs.declared.block.Served.{Served}
 use Rattle.server.specs.declared.block.Served.TheVariants.{Unit as OneUnit, Departed}
 use Rattle.server.specs.Calls.{gone, served, one_less}
 use Rattle.server.proofs.Turned.{turned_take}

@@ -1,5 +1,5 @@
 -- How far a client has been served, and why a client on time keeps the law of debt.
-use Rattle.std.proofs.Common.{◌≡◌, ℕ, zero, suc, ◌+◌, ◌-◌, ◌*◌, ◌<◌, ◌≤◌, max, Bool, true, false, cond, leb, List, [], ◌∷◌, ◌++◌, length, sym, refl, ap, ◌∙◌, mul-le-mul_left, mul-add, arith, leb-false, leb-true}
+use Rattle.std.proofs.Common.{◌≡◌, ℕ, ◌+◌, ◌-◌, ◌*◌, ◌<◌, ◌≤◌, max, Bool, true, false, cond, leb, List, [], ◌∷◌, ◌++◌, length, refl, ap, mul-le-mul_left, mul-add, arith, leb-false, leb-true}
 use native.Mathlib.Nat.{le-max_left, le-max_right}
 use Rattle.server.specs.declared.block.Block.{Block}
 use Rattle.server.specs.Calls.{served, one_less}

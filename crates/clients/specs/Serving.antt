@@ -1,5 +1,5 @@
 -- A table of clients: those who come in, and a slot that serves a chosen one. Assumes nothing.
-use Rattle.std.specs.Prelude.{ℕ, ◌+◌, Bool, true, false, cond, ◌&&◌, List, [], ◌∷◌, length, Some, None, Ok, Err, Option, nat_le, nat_lt}
+use Rattle.std.specs.Prelude.{ℕ, ◌+◌, Bool, cond, ◌&&◌, List, [], ◌∷◌, length, Some, None, Ok, Err, Option, nat_le, nat_lt}
 use Rattle.server.specs.declared.block.Block.{Block}
 use Rattle.server.specs.declared.block.Served.{Served}
 use Rattle.server.specs.declared.block.Served.TheVariants.{Nothing}

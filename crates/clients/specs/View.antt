@@ -1,5 +1,5 @@
 -- What the table of clients means. Assumes nothing.
-use Rattle.std.specs.Prelude.{ℕ, List, [], ◌∷◌, map, take, slice_index, slice_index_or}
+use Rattle.std.specs.Prelude.{ℕ, List, [], map, take, slice_index, slice_index_or}
 use Rattle.server.specs.declared.block.Block.{Block}
 use Rattle.server.specs.declared.rate.Terms.{Terms}
 use Rattle.server.specs.Meaning.{Client, Meaning}

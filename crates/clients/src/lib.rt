@@ -2,6 +2,7 @@
 // A scheduler only chooses whom a slot serves; submissions, questions, the order of starts, the law
 // of the clock and the step from 'on time' to the law of debt are here, once.
 #![tactic(auto)]
+
 pub mod booking;
 mod calls;
 pub mod lanes;

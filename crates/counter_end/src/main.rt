@@ -1,5 +1,6 @@
 // Serves an empty frame to the end of its slot counter, and prints what one more slot answers.
 #![tactic(auto)]
+
 use frame::booking::FrameBooking;
 use server::server::Server;
 use std::io;

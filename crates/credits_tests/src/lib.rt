@@ -2,6 +2,7 @@
 // and a longer run beside a table that a model of the rules gave. A run is one letter a slot: a full
 // stop where nothing went, a digit for a unit of that client, a capital for a block's last unit.
 #![tactic(auto)]
+
 #[cfg(test)]
 mod tests {
     use clients::booking::BookingRefusal;

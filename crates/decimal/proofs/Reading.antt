@@ -1,6 +1,6 @@
 -- Each case of a text's first bytes gives its number: none for an empty text, a leading zero and a long text.
-use Rattle.std.proofs.Common.{◌≡◌, ℕ, ◌-◌, ◌<◌, ◌≤◌, true, false, cond, List, [], ◌∷◌, length, get_or, take, drop, Some, None, Option, sym, refl, ap, ◌∙◌, arith, length-drop}
-use Rattle.decimal.specs.Numbers.{read_on, digits_on, shaped, kept, number_of}
+use Rattle.std.proofs.Common.{◌≡◌, ℕ, ◌-◌, ◌<◌, ◌≤◌, true, false, cond, List, [], ◌∷◌, length, get_or, take, drop, Some, None, Option, sym, ap, ◌∙◌, arith, length-drop}
+use Rattle.decimal.specs.Numbers.{digits_on, shaped, kept, number_of}
 use Rattle.std.proofs.lemmas.List.{take_rest}
 use Rattle.std.proofs.lemmas.Bool.Decides.{nat_tests}
 

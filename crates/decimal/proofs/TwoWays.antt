@@ -1,6 +1,6 @@
 -- Writing the number of a text gives that text, and reading a written number gives that number.
 use Rattle.std.proofs.Common.{◌≡◌, ℕ, zero, suc, ◌^◌, ◌<◌, ◌≤◌, true, List, length, get_or, Some, decimal, sym, ap, ◌∙◌, arith, rules}
-use Rattle.decimal.specs.Numbers.{read_on, digits_on, shaped, kept, number_of}
+use Rattle.decimal.specs.Numbers.{read_on, number_of}
 use Rattle.std.proofs.lemmas.Fmt.{decimal_digit, digits_decimal, digits_value-decimal, decimal-digits_value, length-decimal-le, decimal_nonempty, first_decimal}
 use Rattle.std.proofs.lemmas.Str.Parse.{IsNumeralModel, numerals_by_fold}
 use Rattle.std.proofs.lemmas.Bool.Decides.{nat_tests}

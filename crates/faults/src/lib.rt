@@ -2,6 +2,7 @@
 // A fault is told by its line, its field, its hop and its number, with 0 for what does not apply.
 // A field's and a booking's fault turn into a line's by `?`.
 #![tactic(auto)]
+
 ghost use Rattle.faults.specs.Faults.{cause_number, notice_of};
 ghost use Rattle.faults.specs.declared.LineFault.TheVariants.{Booking, Field};
 ghost use Rattle.std.specs.Prelude.{◌≡◌};

@@ -1,5 +1,5 @@
 -- A reservation in a frame: what it answers and leaves, and that it fits.
-use Rattle.std.proofs.Common.{◌≡◌, ℕ, ◌+◌, ◌-◌, ◌*◌, ◌^◌, ◌<◌, ◌≤◌, Bool, true, false, cond, ◌&&◌, ltb, leb, List, length, Ok, Err, Option, sym, refl, ap, ◌∙◌, subst, mul-le-mul, arith, le-ltb, le-leb}
+use Rattle.std.proofs.Common.{◌≡◌, ℕ, ◌-◌, ◌*◌, ◌^◌, ◌<◌, ◌≤◌, Bool, true, false, cond, ◌&&◌, ltb, List, length, Err, Option, sym, ap, ◌∙◌, subst, mul-le-mul, arith, le-ltb, le-leb}
 use mathlib.Core.Logic.{∥∥₁_map}
 use Rattle.server.specs.declared.rate.Rate.{Rate}
 use Rattle.server.specs.declared.rate.Terms.{Terms}
@@ -7,7 +7,7 @@ use Rattle.server.specs.Meaning.{Meaning}
 use Rattle.server.specs.Laws.{Unused}
 use Rattle.clients.specs.declared.booking.BookingRefusal.TheVariants.{Over}
 use Rattle.clients.specs.Held.{latency_for}
-use Rattle.clients.specs.Serving.{rate_ok, terms_ok, admits, admitted}
+use Rattle.clients.specs.Serving.{rate_ok, admits, admitted}
 use Rattle.clients.proofs.Kept.{admits_full, unused_admitted}
 use Rattle.frame.specs.Frames.{owned, theta}
 use Rattle.frame.specs.Paced.{Paced}

@@ -1,21 +1,20 @@
 -- The calls keep a frame's clients on time, and so within the laws.
-use Rattle.std.specs.Prelude.{◌≡◌, ℕ, zero, suc, ◌+◌, ◌-◌, ◌*◌, ◌<◌, ◌≤◌, Bool, true, false, cond, ◌&&◌, ltb, ◌≢◌, List, [], ◌∷◌, length, Some, None, Option, nat_lt, refl}
-use Rattle.std.proofs.Common.{sym, ap, subst, ◌∙◌, ⊎_elim, arith, mul-le-mul, mul-le-mul_left, mul-add, ltb-true, ltb-false, leb-true, eqb-true, eq-eqb, ne_eqb, lt-ltb}
+use Rattle.std.specs.Prelude.{◌≡◌, ℕ, suc, ◌+◌, ◌*◌, ◌<◌, ◌≤◌, Bool, true, false, cond, ◌&&◌, ltb, ◌≢◌, List, length, Some, None, Option, nat_lt, refl}
+use Rattle.std.proofs.Common.{sym, ap, subst, ◌∙◌, ⊎_elim, arith, mul-le-mul, mul-add, ltb-true, ltb-false, eq-eqb, ne_eqb, lt-ltb}
 use Rattle.std.proofs.Math.Logic.{∥∥₁_map₂}
-use Rattle.std.proofs.lemmas.Bool.{cases_eq, and_parts, eqb-false}
+use Rattle.std.proofs.lemmas.Bool.{cases_eq, and_parts}
 use Rattle.server.specs.declared.rate.Rate.{Rate}
 use Rattle.server.specs.declared.rate.Terms.{Terms}
 use Rattle.server.specs.Meaning.{Client, Meaning}
 use Rattle.server.specs.Calls.{at, granted, submitted, entered, serve, ticked, served_to}
-use Rattle.server.specs.Laws.{ClientLaws, Lawful, Unused}
+use Rattle.server.specs.Laws.{ClientLaws, Lawful}
 use Rattle.server.proofs.Meanings.{at_elim}
 use Rattle.clients.specs.Held.{Held, Kept, reach, latency_for}
-use Rattle.clients.specs.Serving.{new_client, rate_ok, terms_ok, admits, admitted, waits, served_client, gives, goes_on, slot_leaves}
+use Rattle.clients.specs.Serving.{new_client, rate_ok, terms_ok, admitted, waits, served_client, goes_on, slot_leaves}
 use Rattle.clients.proofs.Clients.{reach_entered, reach_ticked, reach_gone, reach_empty, laws_on_time}
 use Rattle.clients.proofs.Kept.{rate_ranged, ranged_terms, admitted_elim, admitted_now}
 use Rattle.frame.specs.Frames.{owner_at, mine, owned, window, theta}
 use Rattle.frame.specs.Paced.{Share, Paced}
-use Rattle.frame.specs.States.{State, carries, reserved}
 use Rattle.frame.specs.Windows.{window_holds}
 
 -- ## One client

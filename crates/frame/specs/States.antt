@@ -1,5 +1,5 @@
 -- The frame's booking and server as functions of their state. Assumes nothing.
-use Rattle.std.specs.Prelude.{ℕ, ◌+◌, ◌*◌, Bool, true, false, cond, ◌&&◌, List, [], ◌∷◌, length, Some, None, Ok, Err, Option, Result, nat_le, nat_lt}
+use Rattle.std.specs.Prelude.{ℕ, ◌*◌, Bool, cond, ◌&&◌, List, [], ◌∷◌, length, None, Ok, Err, Option, Result, nat_le, nat_lt}
 use Rattle.server.specs.declared.rate.Rate.{Rate}
 use Rattle.server.specs.Meaning.{Meaning}
 use Rattle.server.specs.Calls.{submitted}

@@ -2,9 +2,10 @@
 // A booking reserves clients whose slots carry their rate; opening it gives the server, whose calls
 // are known by equality and which keeps the laws of a server.
 #![tactic(auto)]
+
 pub mod booking;
+pub mod frame_server;
 mod looking;
 pub mod owners;
 mod reserving;
-pub mod frame_server;
 pub mod serving;

@@ -3,9 +3,9 @@ ghost use Rattle.server.specs.Laws.{Unused};
 ghost use Rattle.frame.specs.States.{booked_in, state_of, fresh, frame_says, frame_set, reserve_says, reserved};
 
 use crate::booking::FrameBooking;
+use crate::frame_server::FrameServer;
 use crate::looking::{in_range, table_of};
 use crate::owners::Frame;
-use crate::frame_server::FrameServer;
 use clients::booking::BookingRefusal;
 use clients::table::Clients;
 use clients::ticks::{latency_of, rate_in_range};

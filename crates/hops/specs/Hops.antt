@@ -1,5 +1,5 @@
 -- What the lines of a trace book at the three hops. Assumes nothing.
-use Rattle.std.specs.Prelude.{ℕ, min, List, Ok, Err, Option, Result}
+use Rattle.std.specs.Prelude.{ℕ, min, List, Ok, Err, Result}
 use Rattle.server.specs.declared.rate.Rate.{Rate}
 use Rattle.clients.specs.declared.booking.BookingRefusal.{BookingRefusal}
 use Rattle.faults.specs.declared.BookingFault.{BookingFault}

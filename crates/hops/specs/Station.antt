@@ -1,5 +1,4 @@
 -- The station's chain of three hops: frame and credits joined, and that chain and the ring. Assumes nothing.
-use Rattle.std.specs.Prelude.{ℕ}
 use Rattle.server.specs.Meaning.{Meaning}
 use Rattle.server.specs.Machine.{Machine}
 use Rattle.frame.specs.declared.frame_server.FrameServer.{FrameServer}

@@ -1,5 +1,6 @@
 // Traces whose bookings are refused, and what each must tell: line, field, hop and number.
 #![tactic(auto)]
+
 use faults::{Notice, RunFault};
 use hops::hops::Hops;
 use trace::read;

@@ -1,5 +1,5 @@
 -- Two servers that fit stand together, unused; two that do not make a chain of no clients.
-use Rattle.std.proofs.Common.{◌≡◌, ℕ, zero, suc, ◌+◌, ◌<◌, ◌≤◌, Bool, true, false, cond, ◌&&◌, eqb, leb, List, [], ◌∷◌, ◌++◌, length, Ok, Err, sym, refl, ap, ◌∙◌, subst, arith, eqb-true, leb-true}
+use Rattle.std.proofs.Common.{◌≡◌, ℕ, zero, suc, ◌+◌, ◌<◌, ◌≤◌, Bool, true, false, cond, ◌&&◌, eqb, List, [], length, Ok, Err, sym, refl, ap, ◌∙◌, subst, arith, eqb-true, leb-true}
 use borrow.Author.Tests.{eqb-false}
 use Rattle.std.proofs.lemmas.Bool.{and_parts}
 use Rattle.std.proofs.lemmas.List.{nil_from_length}
@@ -8,10 +8,9 @@ use Rattle.server.specs.declared.rate.Rate.{Rate}
 use Rattle.server.specs.Meaning.{Client, Meaning}
 use Rattle.server.specs.Laws.{Lawful, Unused}
 use Rattle.server.specs.Order.{InOrder}
-use Rattle.join.specs.declared.view.View.{View}
 use Rattle.join.specs.declared.fit.Misfit.TheVariants.{Differ, Used, Late}
 use Rattle.join.specs.Fit.{view_of, all_below, each, have_same_rate, idle, are_idle, is_in_reach, Answer, fitting, chain_clients}
-use Rattle.join.specs.Link.{restarted, whole, chained, Behind, Linked, Stands}
+use Rattle.join.specs.Link.{whole, chained, Behind, Linked, Stands}
 
 each_below : (n : ℕ) (f : ℕ → Bool) → all_below n f ≡ true → (k : ℕ) → k < n → f k ≡ true
 each_below zero f e k h = absurd (omega (arith, h))

@@ -1,5 +1,5 @@
 -- A chain of two named servers is their joint machine.
-use Rattle.std.proofs.Common.{◌≡◌, ℕ, ◌+◌, ◌<◌, Bool, true, false, cond, eqb, List, Ok, Err, sym, refl, ap, ◌∙◌, subst, arith, ne_eqb}
+use Rattle.std.proofs.Common.{◌≡◌, ℕ, ◌+◌, ◌<◌, Bool, true, false, cond, eqb, List, Ok, Err, sym, ap, ◌∙◌, arith, ne_eqb}
 use Rattle.server.specs.declared.block.Served.{Served}
 use Rattle.server.specs.declared.block.Served.TheVariants.{Nothing}
 use Rattle.server.specs.declared.refusal.Refusal.TheVariants.{Ended}

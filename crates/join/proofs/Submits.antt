@@ -1,13 +1,10 @@
 -- A submission to a chain: what it answers, what it leaves, and that the chain still stands.
-use Rattle.std.proofs.Common.{◌≡◌, ℕ, ◌+◌, ◌*◌, ◌/◌, ◌^◌, ◌<◌, ◌≤◌, min, max, Bool, true, false, cond, ◌&&◌, eqb, ltb, leb, List, [], ◌∷◌, ◌++◌, length, Ok, Err, Result, sym, refl, ap, ◌∙◌, subst, mul-le-mul, arith, ltb-true, lt-ltb, le-leb}
-use mathlib.Core.Path.{fun_ext}
+use Rattle.std.proofs.Common.{◌≡◌, ℕ, ◌+◌, ◌*◌, ◌/◌, ◌<◌, ◌≤◌, min, max, Bool, true, cond, List, length, Ok, sym, ap, ◌∙◌, subst, mul-le-mul, arith}
 use native.Mathlib.Nat.{min-eq_left}
 use Rattle.server.specs.declared.rate.Rate.{Rate}
-use Rattle.server.specs.declared.refusal.Refusal.{Refusal}
-use Rattle.server.specs.declared.refusal.Refusal.TheVariants.{NoClient}
-use Rattle.server.specs.Meaning.{Client, Meaning, units_left}
+use Rattle.server.specs.Meaning.{Client, Meaning}
 use Rattle.server.specs.Calls.{DueAnswer, asked, at, start_at, due_of, entered, granting, granted, submitted}
-use Rattle.server.specs.Laws.{ClientLaws, Lawful}
+use Rattle.server.specs.Laws.{Lawful}
 use Rattle.server.proofs.Meanings.{at_elim, at_is, at_here, at_other}
 use Rattle.server.proofs.Grants.{asked_ok, grants, granting_is, clock_small}
 use Rattle.join.specs.Link.{joined, chained, Linked, Stands}

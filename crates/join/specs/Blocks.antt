@@ -1,6 +1,6 @@
 -- The rows of blocks of a chain: their shape, their debts and their lengths.
-use Rattle.std.specs.Prelude.{◌≡◌, ℕ, suc, ◌+◌, ◌*◌, ◌<◌, ◌≤◌, List, [], ◌∷◌, ◌++◌, length, refl}
-use Rattle.std.proofs.Common.{sym, ap, subst, ◌∙◌, arith}
+use Rattle.std.specs.Prelude.{◌≡◌, ℕ, suc, ◌+◌, ◌≤◌, List, [], ◌∷◌, ◌++◌, length, refl}
+use Rattle.std.proofs.Common.{ap, arith}
 use Rattle.server.specs.declared.block.Block.{Block}
 use Rattle.server.specs.Meaning.{units_left}
 use Rattle.server.specs.Laws.{Each, Shaped}

@@ -1,5 +1,5 @@
 -- Whether two servers fit. Assumes nothing.
-use Rattle.std.specs.Prelude.{ℕ, zero, suc, ◌+◌, Bool, true, false, cond, ◌&&◌, length, Ok, Err, Result, ◌==◌, nat_le}
+use Rattle.std.specs.Prelude.{ℕ, zero, suc, ◌+◌, Bool, true, cond, ◌&&◌, length, Ok, Err, Result, ◌==◌, nat_le}
 use Rattle.server.specs.Meaning.{Client, Meaning}
 use Rattle.join.specs.declared.fit.Misfit.{Misfit}
 use Rattle.join.specs.declared.fit.Misfit.TheVariants.{Differ, Used, Late}

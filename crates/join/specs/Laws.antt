@@ -1,5 +1,5 @@
 -- A chain keeps the laws of a server, and a slot of it is a slot.
-use Rattle.std.specs.Prelude.{◌≡◌, ℕ, ◌+◌, ◌<◌, ◌≤◌, List, refl}
+use Rattle.std.specs.Prelude.{◌≡◌, ℕ, ◌+◌, ◌<◌, List}
 use Rattle.std.proofs.Common.{sym, ap, subst, ◌∙◌, arith}
 use Rattle.std.proofs.Math.Path.{fun_ext}
 use Rattle.server.specs.declared.block.Served.{Served}
@@ -7,7 +7,7 @@ use Rattle.server.specs.Meaning.{Client, Meaning}
 use Rattle.server.specs.Calls.{SlotAnswer, Went, Slotted}
 use Rattle.server.specs.Laws.{ClientLaws, Lawful}
 use Rattle.join.specs.Starts.{told, staying, noted}
-use Rattle.join.specs.Link.{joined, chained, Linked, Stands, handed}
+use Rattle.join.specs.Link.{chained, Stands, handed}
 use Rattle.join.specs.Steps.{joined_laws}
 use Rattle.join.specs.Leaving.{Left, left}
 use Rattle.join.specs.Passing.{Passed, passed}

@@ -1,14 +1,13 @@
 -- The second server of a chain serves a slot: the chain has gone one slot on.
-use Rattle.std.specs.Prelude.{◌≡◌, ℕ, ◌+◌, ◌<◌, ◌≤◌, Bool, true, false, cond, ◌≢◌, List, [], ◌∷◌, ◌++◌, length, drop, Ok, Err, slice_index, refl}
+use Rattle.std.specs.Prelude.{◌≡◌, ℕ, ◌+◌, ◌<◌, Bool, cond, ◌≢◌, List, drop, Ok, Err, slice_index, refl}
 use Rattle.std.proofs.Common.{sym, ap, subst, ◌∙◌, arith, eq-eqb, ne_eqb}
-use Rattle.server.specs.declared.block.Block.{Block}
 use Rattle.server.specs.declared.block.Departure.{Departure}
 use Rattle.server.specs.declared.block.Served.{Served}
 use Rattle.server.specs.declared.block.Served.TheVariants.{Nothing, Unit as OneUnit, Departed}
 use Rattle.server.specs.Meaning.{Client, Meaning}
-use Rattle.server.specs.Calls.{SlotAnswer, at, gone, serve, ticked, served_to, Serves, Went, Slotted}
+use Rattle.server.specs.Calls.{SlotAnswer, at, serve, served_to, Serves, Went, Slotted}
 use Rattle.server.proofs.Meanings.{at_elim, at_here, at_other, at_is}
-use Rattle.server.proofs.Answers.{departs, block_departs, unit_stays}
+use Rattle.server.proofs.Answers.{block_departs, unit_stays}
 use Rattle.join.specs.Starts.{at_row, told, staying}
 use Rattle.join.specs.Link.{joined, chained, Linked, Stands}
 use Rattle.join.specs.Steps.{stay, linked_left, joined_left, joined_length, retold, gone_joined}

@@ -1,19 +1,15 @@
 -- The first server of a chain serves a slot, and what departs goes to the second: the chain means the same.
-use Rattle.std.specs.Prelude.{◌≡◌, ℕ, ◌+◌, ◌*◌, ◌<◌, ◌≤◌, Bool, true, false, cond, ◌&&◌, List, [], ◌∷◌, ◌++◌, length, Ok, Err, ◌==◌, nat_le, nat_lt, refl}
-use Rattle.std.proofs.Common.{sym, ap, subst, ◌∙◌, arith, eqb-true, lt-ltb, le-leb}
-use Rattle.std.proofs.Math.Path.{fun_ext}
-use Rattle.std.proofs.lemmas.Bool.{eqb-false}
-use Rattle.server.specs.declared.block.Block.{Block}
+use Rattle.std.specs.Prelude.{◌≡◌, ℕ, ◌+◌, ◌*◌, ◌<◌, ◌≤◌, Bool, true, false, cond, List, length, Ok, Err, ◌==◌, nat_le, nat_lt, refl}
+use Rattle.std.proofs.Common.{sym, ap, subst, arith, eqb-true, lt-ltb, le-leb}
 use Rattle.server.specs.declared.block.Departure.{Departure}
-use Rattle.server.specs.declared.block.Served.{Served}
 use Rattle.server.specs.declared.block.Served.TheVariants.{Nothing, Unit as OneUnit, Departed}
 use Rattle.server.specs.Meaning.{Client, Meaning}
-use Rattle.server.specs.Calls.{SlotAnswer, at, serve, entered, ticked, served_to, granted, submitted, Serves, Went, Slotted}
+use Rattle.server.specs.Calls.{SlotAnswer, at, serve, entered, served_to, granted, submitted, Went, Slotted}
 use Rattle.server.specs.Laws.{Each, Lawful}
 use Rattle.server.proofs.Meanings.{at_elim}
-use Rattle.server.proofs.Answers.{departs, unit_stays, departed_length}
+use Rattle.server.proofs.Answers.{unit_stays, departed_length}
 use Rattle.join.specs.Starts.{at_row, pushed, put_in, noted}
-use Rattle.join.specs.Link.{joined, chained, Linked, handed}
+use Rattle.join.specs.Link.{joined, Linked, handed}
 use Rattle.join.specs.Steps.{linked_unit, linked_passed}
 
 -- the first has answered, and what departed was submitted to the second

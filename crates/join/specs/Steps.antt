@@ -1,5 +1,5 @@
 -- One client of a chain through a submission, a slot of the second and a slot of the first.
-use Rattle.std.specs.Prelude.{◌≡◌, ℕ, zero, suc, ◌+◌, ◌-◌, ◌*◌, ◌<◌, ◌≤◌, max, Bool, true, false, cond, List, [], ◌∷◌, ◌++◌, length, drop, nat_le, nat_lt, slice_index, refl}
+use Rattle.std.specs.Prelude.{◌≡◌, ℕ, ◌+◌, ◌*◌, ◌<◌, ◌≤◌, Bool, true, false, cond, List, [], ◌∷◌, ◌++◌, length, drop, nat_le, nat_lt, slice_index, refl}
 use Rattle.std.proofs.Common.{sym, ap, subst, ◌∙◌, append_assoc, arith, mul-le-mul_left, length-append, lt-ltb}
 use Rattle.std.proofs.Math.Nat.{le-max_right}
 use Rattle.server.specs.declared.block.Block.{Block}
@@ -8,11 +8,10 @@ use Rattle.server.specs.declared.block.Served.{Served}
 use Rattle.server.specs.declared.block.Served.TheVariants.{Nothing, Unit as OneUnit, Departed}
 use Rattle.server.specs.declared.rate.Rate.{Rate}
 use Rattle.server.specs.Meaning.{Client, units_left}
-use Rattle.server.specs.Calls.{start_at, new_block, entered, one_less, served, gone, serve}
+use Rattle.server.specs.Calls.{new_block, entered, one_less, served, gone, serve}
 use Rattle.server.specs.Laws.{Each, Shaped, ClientLaws}
-use Rattle.server.specs.Order.{InOrder}
 use Rattle.server.proofs.Rows.{order_push, order_from, length_served}
-use Rattle.server.proofs.Answers.{departs, departed_is, unit_stays, block_departs}
+use Rattle.server.proofs.Answers.{departs, departed_is, block_departs}
 use Rattle.join.specs.Starts.{pushed, started_at}
 use Rattle.join.specs.Link.{start_from, restarted, as_whole, whole, joined, next_start, Behind, Linked}
 use Rattle.join.specs.Blocks.{each_append, whole_shaped, whole_debt, whole_length, whole_append, left_joined, order_next, restarted_shaped, restarted_debt, restarted_length, behind_length}

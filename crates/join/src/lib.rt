@@ -2,6 +2,7 @@
 // It consumes both, is a server again, so that chains of chains work, and keeps the laws of a server
 // with the summed latency, whatever two lawful servers it is made of.
 #![tactic(auto)]
+
 pub mod chain;
 pub mod fit;
 pub mod fitting;

@@ -7,7 +7,7 @@ use Rattle.labels.specs.Labels.{packet_code, packet_reads, packet_text, packet_w
 use Rattle.marks.proofs.Parted.{span_pass, whole}
 use Rattle.marks.specs.Marks.{span_to, before, behind}
 use Rattle.std.proofs.lemmas.Nat.{div-mul-add, mod-mul-add, div-add-mod'}
-use Rattle.std.proofs.lemmas.Fmt.{digits_decimal, length-decimal-le, decimal_nonempty}
+use Rattle.std.proofs.lemmas.Fmt.{digits_decimal, length-decimal-le}
 use Rattle.std.proofs.lemmas.Bool.{le-leb}
 use Rattle.std.proofs.lemmas.Bool.Decides.{nat_tests}
 use Rattle.std.specs.Str.{all_ascii_digits}

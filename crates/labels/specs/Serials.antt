@@ -1,6 +1,6 @@
 -- A serial number's text and code give each other.
 use Rattle.std.specs.Prelude.{◌≡◌, ℕ, ◌≤◌, cond, List, length, Some, None, decimal, nat_le}
-use Rattle.decimal.proofs.TwoWays.{Numeral, numeral, number_decimal, decimal_number}
+use Rattle.decimal.proofs.TwoWays.{numeral, number_decimal, decimal_number}
 use Rattle.labels.specs.Labels.{serial_reads, serial_writes}
 use Rattle.std.proofs.lemmas.Bool.{le-leb}
 use Rattle.std.proofs.lemmas.Bool.Decides.{nat_tests}

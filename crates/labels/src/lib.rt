@@ -2,6 +2,7 @@
 // Writing what was read gives the same bytes, and reading what was written gives the same code, for every kind.
 // Kind S is a serial number and kind P a packet identity; a letter chooses between them.
 #![tactic(auto)]
+
 ghost use Rattle.std.specs.Prelude.{◌≡◌, ℕ, ◌≤◌, List, length, Some, Option};
 ghost use Rattle.labels.specs.Labels.{packet_reads, packet_writes, serial_reads, serial_writes};
 ghost use Rattle.labels.specs.Refusals.{told};

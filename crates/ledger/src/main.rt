@@ -3,6 +3,7 @@
 // their answers alone the program keeps a book, and shows for each block how far it got from its start,
 // and the bound on that distance, which is the latency of the three hops together.
 #![tactic(auto)]
+
 mod answers;
 mod keeping;
 mod script;

@@ -2,6 +2,7 @@
 // A line's letter comes first, then its number of fields, and then its fields from the left.
 // A wrong line gives the fault of the first of these, and nothing is asked of a caller.
 #![tactic(auto)]
+
 mod lines;
 mod listing;
 mod owners;

@@ -2,6 +2,7 @@
 // A field is read as a letter, a number or a label, or gives its fault.
 // Nothing is read outside the bytes, and nothing is asked of a caller.
 #![tactic(auto)]
+
 mod fields;
 mod parts;
 mod reader;

@@ -7,8 +7,8 @@ ghost use Rattle.clients.specs.Meant.{meaning};
 ghost use Rattle.ring.specs.Search.{gone_round};
 ghost use Rattle.ring.specs.Pacing.{paced_lawful};
 
-use crate::searching::{first_waiting, length_of, rest_given};
 use crate::ring_server::RingServer;
+use crate::searching::{first_waiting, length_of, rest_given};
 use server::block::Served;
 use server::rate::Rate;
 use server::refusal::Refusal;

@@ -1,9 +1,8 @@
 -- What a slot's answer tells of the row of blocks that it came from.
-use Rattle.std.proofs.Common.{◌≡◌, ℕ, ◌<◌, ◌≤◌, Bool, true, false, cond, leb, List, [], ◌∷◌, length, sym, refl, ap, ◌∙◌, arith}
+use Rattle.std.proofs.Common.{◌≡◌, ℕ, ◌<◌, ◌≤◌, Bool, true, false, cond, leb, List, [], ◌∷◌, refl, ap, ◌∙◌, arith}
 use Rattle.server.specs.declared.block.Block.{Block}
 use Rattle.server.specs.declared.block.Departure.{Departure}
-use Rattle.server.specs.declared.block.Served.{Served}
-use Rattle.server.specs.declared.block.Served.TheVariants.{Nothing, Unit as OneUnit, Departed}
+use Rattle.server.specs.declared.block.Served.TheVariants.{Unit as OneUnit, Departed}
 use Rattle.server.specs.Calls.{gone}
 use Rattle.server.specs.Laws.{Each, Shaped}
 

@@ -1,8 +1,8 @@
 -- Meanings, client by client.
-use Rattle.std.proofs.Common.{◌≡◌, ℕ, Bool, true, false, cond, eqb, ◌≢◌, sym, refl, ap, ◌∙◌, subst, eq-eqb, ne_eqb, eqb-true}
+use Rattle.std.proofs.Common.{◌≡◌, ℕ, Bool, true, false, cond, eqb, ◌≢◌, sym, refl, ap, subst, eq-eqb, ne_eqb, eqb-true}
 use mathlib.Core.Path.{fun_ext}
 use borrow.Author.Tests.{eqb-false}
-use Rattle.server.specs.Meaning.{Client, Meaning}
+use Rattle.server.specs.Meaning.{Client}
 use Rattle.server.specs.Calls.{at}
 
 -- what holds of a client after client c was changed: at c it is owed of the change

@@ -1,7 +1,6 @@
 -- That a meaning is lawful is a proposition, so that it may be read off a truncated fact.
-use Rattle.std.proofs.Common.{◌≡◌, ℕ, ◌+◌, ◌*◌, ◌≤◌, List, [], ◌∷◌}
+use Rattle.std.proofs.Common.{ℕ, ◌+◌, ◌*◌, ◌≤◌, List, [], ◌∷◌}
 use mathlib.Core.HLevel.{Unit-prop, Π_prop, →_prop, ×_prop}
-use mathlib.Core.Logic.{∥∥₁_elim}
 use native.Mathlib.Bridge.{le_prop}
 use Rattle.server.specs.declared.block.Block.{Block}
 use Rattle.server.specs.declared.rate.Terms.{Terms}

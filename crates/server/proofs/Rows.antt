@@ -1,5 +1,5 @@
 -- A row of waiting blocks: its starts in order, its units, and what is left when one goes.
-use Rattle.std.proofs.Common.{◌≡◌, ℕ, zero, suc, ◌+◌, ◌-◌, ◌*◌, ◌<◌, ◌≤◌, Bool, true, false, cond, leb, List, [], ◌∷◌, ◌++◌, length, sym, refl, ap, ◌∙◌, arith, leb-false, leb-true}
+use Rattle.std.proofs.Common.{◌≡◌, ℕ, suc, ◌+◌, ◌*◌, ◌≤◌, Bool, true, false, cond, leb, List, [], ◌∷◌, ◌++◌, length, refl, arith, leb-false, leb-true}
 use Rattle.server.specs.declared.block.Block.{Block}
 use Rattle.server.specs.Meaning.{units_left}
 use Rattle.server.specs.Calls.{served, one_less}

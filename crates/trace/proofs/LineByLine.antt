@@ -1,5 +1,5 @@
 -- One turn of the reading: a line that is there is taken off the parts, and without one the last part is left.
-use Rattle.std.proofs.Common.{◌≡◌, ℕ, suc, ◌+◌, ◌<◌, ◌≤◌, cond, ltb, List, [], ◌∷◌, length, drop, Some, None, Ok, Err, Option, Result, sym, refl, ap, ◌∙◌, arith, length-drop}
+use Rattle.std.proofs.Common.{◌≡◌, ℕ, suc, ◌+◌, ◌<◌, ◌≤◌, cond, ltb, List, [], ◌∷◌, length, Some, None, Ok, Err, Option, Result, sym, refl, ap, ◌∙◌, arith, length-drop}
 use Rattle.marks.proofs.Parted.{parts_some, parts_all, parts_more}
 use Rattle.marks.specs.Marks.{span_to, before, behind, parts}
 use Rattle.std.proofs.lemmas.Bool.{lt-ltb, le-ltb, le-leb}

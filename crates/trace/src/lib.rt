@@ -2,6 +2,7 @@
 // A trace that is not in order gives the fault of its first wrong line, with the lower fault whole.
 // It never reads outside the trace, always ends, and asks nothing of its caller.
 #![tactic(auto)]
+
 mod bookings;
 mod reading;
 mod step;

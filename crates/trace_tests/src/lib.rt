@@ -2,6 +2,7 @@
 // Each test is a table; a whole trace gives four zeros.
 // A trace cut at any byte lacks the line that it is cut in.
 #![tactic(auto)]
+
 use faults::Notice;
 use std::alloc::{AllocError, Global};
 use trace::Unbooked;

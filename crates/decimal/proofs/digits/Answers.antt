@@ -1,4 +1,4 @@
-use Rattle.decimal.proofs.EachDigit.{stop, go, digit_small, grows, digits_stop, digits_go}
+use Rattle.decimal.proofs.EachDigit.{digit_small, grows, digits_stop, digits_go}
 use Rattle.decimal.proofs.digits.Goals as goal
 use Rattle.decimal.specs.Numbers.{digits_on}
 use Rattle.std.proofs.lemmas.List.{at_drop_all}

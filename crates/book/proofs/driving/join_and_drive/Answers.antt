@@ -1,4 +1,4 @@
-use Rattle.std.proofs.Common.{◌≡◌, ℕ, min, List, map, length, take, drop, subst}
+use Rattle.std.proofs.Common.{◌≡◌, ℕ, min, map, length, take, drop, subst}
 use Rattle.join.specs.Joint.{Joint, state_of, means_of, joint, begun}
 use Rattle.book.specs.Book.{Promised}
 use Rattle.book.specs.Runs.{call_of, history, ending}

@@ -1,4 +1,4 @@
-use Rattle.std.proofs.Common.{◌≡◌, ◌<◌, Bool, true, false, ◌&&◌, eqb, ap, ◌∙◌, arith}
+use Rattle.std.proofs.Common.{◌<◌, Bool, true, ◌&&◌, eqb, ap, arith}
 use Rattle.join.specs.Fit.{have_same_rate, are_idle, is_in_reach}
 use Rattle.join.proofs.Fits.{more}
 use Rattle.join.proofs.fitting.fit.Goals as goal

@@ -1,5 +1,4 @@
 use Rattle.std.proofs.Common.{◌≡◌, false, ◌&&◌, eqb}
-use Rattle.server.specs.Meaning.{Meaning}
 use Rattle.join.specs.Fit.{have_same_rate, are_idle, is_in_reach}
 use Rattle.join.proofs.Fits.{up_to}
 use Rattle.join.proofs.fitting.fit.Given as goal

@@ -1,6 +1,6 @@
 use Rattle.decimal.proofs.TwoWays.{numeral}
 use Rattle.labels.proofs.PacketLabelKind.read.Goals as goal
-use Rattle.labels.proofs.PacketReading.{no_stop, without_apid, without_count, two_numbers}
+use Rattle.labels.proofs.PacketReading.{no_stop, without_count, two_numbers}
 use Rattle.std.proofs.Common.{sym, arith}
 
 pub returns-then-stop-text : goal.returns-then-stop-text

@@ -1,5 +1,5 @@
 use Rattle.std.proofs.Common.{◌<◌, length, sym, ◌∙◌, arith, rules}
-use Rattle.lines.proofs.EachOwner.{stored, store_none, store_more, sized, stored_all}
+use Rattle.lines.proofs.EachOwner.{store_none, store_more, sized, stored_all}
 use Rattle.lines.proofs.owners.owners.Goals as goal
 use Rattle.lines.specs.Tables.{listed}
 

@@ -1,4 +1,4 @@
-use Rattle.std.proofs.Common.{◌≡◌, ◌≤◌, length, Some, None, Ok, Err, ap, ◌∙◌, arith}
+use Rattle.std.proofs.Common.{◌≡◌, Ok, Err, ap, ◌∙◌, arith}
 use Rattle.trace.proofs.LineByLine.{shorter, no_header, bad_header, good_header}
 use Rattle.trace.proofs.whole.read.Goals as goal
 use Rattle.reader.specs.Parts.{left, next_line, after_line}

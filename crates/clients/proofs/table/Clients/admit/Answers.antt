@@ -1,6 +1,5 @@
 use Rattle.std.proofs.Common.{sym, ◌∙◌, subst, arith, length-set}
 use mathlib.Core.Logic.{∥∥₁_map}
-use Rattle.server.specs.Meaning.{Meaning}
 use Rattle.clients.specs.Held.{Kept}
 use Rattle.clients.specs.View.{viewed}
 use Rattle.clients.proofs.Kept.{kept_admitted}

@@ -1,4 +1,4 @@
-use Rattle.std.proofs.Common.{◌≡◌, length, sym, ◌∙◌, subst, arith, length-set}
+use Rattle.std.proofs.Common.{length, sym, ◌∙◌, subst, arith, length-set}
 use mathlib.Core.Logic.{∥∥₁_map}
 use Rattle.clients.specs.Held.{Kept}
 use Rattle.clients.specs.View.{viewed}

@@ -2,7 +2,7 @@ use Rattle.decimal.proofs.Extending.{appended, appended_fits}
 use Rattle.decimal.proofs.text.Text.append.Goals as goal
 use Rattle.decimal.specs.Texts.{text_of}
 use Rattle.std.proofs.lemmas.List.{places}
-use Rattle.std.proofs.Common.{◌≡◌, length, ◌∙◌, arith, rules}
+use Rattle.std.proofs.Common.{◌≡◌, length, ◌∙◌, rules}
 
 pub invariant_of-self : goal.invariant_of-self
 invariant_of-self c = search (rules, places)

@@ -1,4 +1,4 @@
-use Rattle.std.proofs.Common.{◌≡◌, ◌≤◌, length, arith, rules}
+use Rattle.std.proofs.Common.{arith}
 use Rattle.clients.specs.Meant.{meaning}
 use Rattle.frame.proofs.Bookings.{paced_none}
 use Rattle.frame.specs.FramesLemmas.{frame_sizes}

@@ -1,4 +1,4 @@
-use Rattle.std.proofs.Common.{◌≡◌, ◌%◌, ◌<◌, length, get_or, take, None, sym, ap, ◌∙◌, mod-lt, arith, length-take-le}
+use Rattle.std.proofs.Common.{◌%◌, ◌<◌, get_or, take, None, sym, ap, ◌∙◌, arith, length-take-le}
 use Rattle.std.proofs.lemmas.List.{get_or-take}
 use Rattle.frame.proofs.owners.Frame.owner.Goals as goal
 

@@ -1,8 +1,7 @@
-use Rattle.std.proofs.Common.{◌≡◌, ℕ, List, [], sym, refl, ap, ◌∙◌, subst}
+use Rattle.std.proofs.Common.{ℕ, List, [], sym, ap, ◌∙◌, subst}
 use Rattle.server.specs.Laws.{Unused}
 use Rattle.join.specs.Starts.{starts_in}
 use Rattle.join.specs.Link.{chained, Stands}
-use Rattle.join.specs.Joint.{Joint}
 use Rattle.join.proofs.Begins.{begin_stands, begin_unused}
 use Rattle.join.proofs.chain.Chain.join.Goals as goal
 

@@ -1,5 +1,4 @@
-use Rattle.std.proofs.Common.{◌≡◌, ℕ, List, Ok, sym, ap, ◌∙◌, rules}
-use Rattle.server.specs.declared.block.Served.{Served}
+use Rattle.std.proofs.Common.{◌≡◌, ℕ, Ok, ap, ◌∙◌, rules}
 use Rattle.server.specs.declared.block.Served.TheVariants.{Departed}
 use Rattle.server.specs.Calls.{SlotAnswer}
 use Rattle.join.specs.Starts.{starts_in, told, staying, started_at}

@@ -1,4 +1,4 @@
-use Rattle.std.proofs.Common.{◌≡◌, ◌<◌, arith, rules}
+use Rattle.std.proofs.Common.{◌<◌, rules}
 use Rattle.join.specs.Starts.{starts_in}
 use Rattle.join.specs.Joint.{state_of}
 use Rattle.join.specs.Laws.{slot_all}

@@ -1,5 +1,5 @@
-use Rattle.std.proofs.Common.{◌≡◌, ℕ, ◌*◌, ◌<◌, ◌≤◌, max, List, length, ap, ◌∙◌, arith, rules}
-use Rattle.server.specs.Meaning.{Client, Meaning}
+use Rattle.std.proofs.Common.{◌<◌, ◌≤◌, length, arith, rules}
+use Rattle.server.specs.Meaning.{Meaning}
 use Rattle.server.proofs.Grants.{asked_ok}
 use Rattle.join.specs.Starts.{starts_in}
 use Rattle.join.specs.Link.{chained}

@@ -1,4 +1,4 @@
-use Rattle.std.proofs.Common.{◌<◌, length, ◌∙◌, arith}
+use Rattle.std.proofs.Common.{length, arith}
 use Rattle.server.proofs.Grants.{asked_known}
 use Rattle.join.specs.Starts.{starts_in}
 use Rattle.join.specs.Link.{chained}
