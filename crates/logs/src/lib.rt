@@ -1,6 +1,6 @@
-// The log: its lines as values, and their bytes.
-// A line's bytes are known by equality for every label kind, and a log of up to 1,208 lines always fits.
-// A log that is too long, or a buffer that is too small, is refused and leaves the buffer as it was.
+// The log: its lines as values.
+// Their bytes are defined beside them, for every label kind. Writing them into a buffer, with the proof that
+// the longest log fits, is still to come.
 #![tactic(auto)]
 
 mod line;

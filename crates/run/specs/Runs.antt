@@ -1,7 +1,6 @@
 -- What a run is: calls made of a server, and the lines of a journal of at most 1,208. Assumes nothing.
-use Rattle.std.specs.Prelude.{◌≡◌, ℕ, ◌≤◌, List, [], ◌∷◌, ◌++◌, map, length, take}
+use Rattle.std.specs.Prelude.{◌≡◌, List, ◌++◌, map, take}
 use Rattle.server.specs.declared.server.Server.{Ghosts}
-use Rattle.server.specs.Meaning.{Meaning}
 use Rattle.book.specs.declared.calls.Call.{Call}
 use Rattle.book.specs.declared.calls.Event.{Event}
 use Rattle.book.specs.Runs.{call_of, Run, history, ending}

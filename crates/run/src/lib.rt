@@ -1,8 +1,7 @@
-// A run: requests are submitted to a server at their slots, and what happens is written line by line.
-// For a named server the lines are known by equality; for every lawful server that is unused, each client's
-// blocks leave in the order of their grants and by the dues that were told.
+// The calls of a run, one at a time, and the line that is written of each.
+// A call of any lawful server is made as its law says and its line stands behind the lines before it; of a
+// named server both are known by equality. The run of a whole trace, which makes all calls, is still to come.
 #![tactic(auto)]
+
 mod noting;
 mod running;
-
-pub use running::run;
