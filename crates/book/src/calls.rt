@@ -3,7 +3,7 @@ use server::rate::Rate;
 use server::refusal::Refusal;
 
 // A block handed to a server.
-#[derive(Clone, Copy)]
+#[derive(Clone, Copy, PartialEq, Eq, Debug)]
 pub struct Order {
     pub client: u8,
     pub label: u32,
@@ -11,7 +11,7 @@ pub struct Order {
 }
 
 // What a server can be asked.
-#[derive(Clone, Copy)]
+#[derive(Clone, Copy, PartialEq, Eq, Debug)]
 pub enum Question {
     Clients,
     Now,
@@ -22,7 +22,7 @@ pub enum Question {
 }
 
 // What a server tells.
-#[derive(Clone, Copy)]
+#[derive(Clone, Copy, PartialEq, Eq, Debug)]
 pub enum Reply {
     Clients(u8),
     Now(u32),
@@ -33,7 +33,7 @@ pub enum Reply {
 }
 
 // A call of a server.
-#[derive(Clone, Copy)]
+#[derive(Clone, Copy, PartialEq, Eq, Debug)]
 pub enum Call {
     Submit(Order),
     Slot,
@@ -41,7 +41,7 @@ pub enum Call {
 }
 
 // A call of a server with its answer.
-#[derive(Clone, Copy)]
+#[derive(Clone, Copy, PartialEq, Eq, Debug)]
 pub enum Event {
     Submit(Order, Result<u64, Refusal>),
     Slot(Result<Served, Refusal>),

@@ -1,7 +1,7 @@
 ghost use Rattle.std.specs.Prelude.{◌≡◌, ◌+◌, min, map, length, take, drop};
 ghost use Rattle.server.specs.Laws.{Unused};
 ghost use Rattle.join.specs.Fit.{fitting, chain_clients};
-ghost use Rattle.join.specs.Joint.{Sound, state_of};
+ghost use Rattle.join.specs.Joint.{state_of};
 ghost use Rattle.book.specs.Book.{Promised};
 ghost use Rattle.book.specs.Chains.{Exactly};
 ghost use Rattle.book.specs.Runs.{call_of, reply, Takes, Run, happens, leads, history, ending};
@@ -12,7 +12,7 @@ use server::server::Server;
 
 // Asks a server.
 fn ask<S: Server>(server: &S, question: Question) -> Reply
-    ensures { S.Server.sound server.now → result ≡ reply (S.Server.means (S.Server.state server.now)) question }
+    ensures { result ≡ reply (S.Server.means (S.Server.state server.now)) question }
 {
     match question {
         Question::Clients => Reply::Clients(server.clients()),
@@ -27,9 +27,8 @@ fn ask<S: Server>(server: &S, question: Question) -> Reply
 // Makes one call.
 pub fn make<S: Server>(server: &mut S, call: Call) -> Event
     ensures of { call_of result ≡ call }
-    ensures takes { S.Server.sound server.old → Takes (S.Server.means (S.Server.state server.old)) result (S.Server.means (S.Server.state server.new)) }
-    ensures stays { S.Server.sound server.old → S.Server.sound server.new }
-    ensures exactly { S.Server.sound server.old → S.Server.named → (result ≡ happens S.Server.means S.Server.machine (S.Server.state server.old) call) × (S.Server.state server.new ≡ leads S.Server.means S.Server.machine (S.Server.state server.old) call) }
+    ensures takes { Takes (S.Server.means (S.Server.state server.old)) result (S.Server.means (S.Server.state server.new)) }
+    ensures exactly { S.Server.named → (result ≡ happens S.Server.means S.Server.machine (S.Server.state server.old) call) × (S.Server.state server.new ≡ leads S.Server.means S.Server.machine (S.Server.state server.old) call) }
 {
     match call {
         Call::Submit(order) => Event::Submit(
@@ -46,14 +45,14 @@ pub fn drive<S: Server>(server: &mut S, calls: &[Call], events: &mut [Event]) ->
     ensures count { result ≡ min (length calls.now) (length events.old) }
     ensures of { map call_of (take result events.new) ≡ take result calls.now }
     ensures rest { drop result events.new ≡ drop result events.old }
-    ensures run { S.Server.sound server.old → Run (S.Server.means (S.Server.state server.old)) (take result events.new) (S.Server.means (S.Server.state server.new)) }
-    ensures stays { S.Server.sound server.old → S.Server.sound server.new }
-    ensures exactly { S.Server.sound server.old → S.Server.named → (take result events.new ≡ history S.Server.means S.Server.machine (S.Server.state server.old) (take result calls.now)) × (S.Server.state server.new ≡ ending S.Server.means S.Server.machine (S.Server.state server.old) (take result calls.now)) }
-    ensures promised { S.Server.sound server.old → Unused (S.Server.means (S.Server.state server.old)) → Promised (S.Server.means (S.Server.state server.old)).count (λ k. ((S.Server.means (S.Server.state server.old)).client k).terms.rate) (λ k. ((S.Server.means (S.Server.state server.old)).client k).terms.latency) (take result events.new) }
+    ensures run { Run (S.Server.means (S.Server.state server.old)) (take result events.new) (S.Server.means (S.Server.state server.new)) }
+    ensures exactly { S.Server.named → (take result events.new ≡ history S.Server.means S.Server.machine (S.Server.state server.old) (take result calls.now)) × (S.Server.state server.new ≡ ending S.Server.means S.Server.machine (S.Server.state server.old) (take result calls.now)) }
+    ensures promised { Unused (S.Server.means (S.Server.state server.old)) → Promised (S.Server.means (S.Server.state server.old)).count (λ k. ((S.Server.means (S.Server.state server.old)).client k).terms.rate) (λ k. ((S.Server.means (S.Server.state server.old)).client k).terms.latency) (take result events.new) }
 {
     let count = calls.len().min(events.len());
-    for i in 0..count {
-        events[i] = make(server, calls[i]);
+    // The events are written by their index: of an `iter_mut` that has ended a proof knows the length alone.
+    for (i, call) in calls[..count].iter().enumerate() {
+        events[i] = make(server, *call);
     }
     count
 }
@@ -68,11 +67,9 @@ pub fn join_and_drive<A: Server, B: Server>(
 ) -> Chain<A, B>
     ensures of { map call_of (take (min (length calls.now) (length events.old)) events.new) ≡ take (min (length calls.now) (length events.old)) calls.now }
     ensures rest { drop (min (length calls.now) (length events.old)) events.new ≡ drop (min (length calls.now) (length events.old)) events.old }
-    ensures sound { A.Server.sound first → B.Server.sound second → Sound A.Server B.Server result }
-    ensures exactly { A.Server.sound first → B.Server.sound second → A.Server.named → B.Server.named
+    ensures exactly { A.Server.named → B.Server.named
         → Exactly A.Server B.Server (A.Server.state first) (B.Server.state second) (take (min (length calls.now) (length events.old)) calls.now) (take (min (length calls.now) (length events.old)) events.new) (state_of A.Server B.Server result) }
-    ensures promised { A.Server.sound first → B.Server.sound second
-        → Promised (chain_clients (fitting (A.Server.means (A.Server.state first)) (B.Server.means (B.Server.state second))) (A.Server.means (A.Server.state first)))
+    ensures promised { Promised (chain_clients (fitting (A.Server.means (A.Server.state first)) (B.Server.means (B.Server.state second))) (A.Server.means (A.Server.state first)))
         (λ k. ((A.Server.means (A.Server.state first)).client k).terms.rate)
         (λ k. ((A.Server.means (A.Server.state first)).client k).terms.latency + ((B.Server.means (B.Server.state second)).client k).terms.latency)
         (take (min (length calls.now) (length events.old)) events.new) }

@@ -1,49 +1,57 @@
-use crate::sources::{CAMERA_RATE, HOUSEKEEPING_RATE, PAYLOAD_RATE, RANGING_RATE, TOO_FAST};
+use crate::reasons::Reason;
+use crate::sources::{
+    CAMERA_RATE, HOUSEKEEPING_RATE, PAYLOAD_RATE, RANGING_RATE, Source, TOO_FAST,
+};
 use clients::booking::BookingRefusal;
 use credits::booking::CreditBooking;
+use credits::credit_server::CreditServer;
 use frame::booking::FrameBooking;
+use frame::frame_server::FrameServer;
 use ring::booking::RingBooking;
+use ring::ring_server::RingServer;
 use std::io;
+
+// The owners of a frame's slots.
+const HOUSEKEEPING: Option<u8> = Some(Source::Housekeeping as u8);
+
+const RANGING: Option<u8> = Some(Source::Ranging as u8);
+
+const PAYLOAD: Option<u8> = Some(Source::Payload as u8);
 
 // Eight slots: four of payload, two of ranging, one of housekeeping, one of nobody.
 const OWNERS: [Option<u8>; 8] = [
-    Some(2),
-    Some(1),
-    Some(2),
-    Some(0),
-    Some(2),
-    Some(1),
-    Some(2),
+    PAYLOAD,
+    RANGING,
+    PAYLOAD,
+    HOUSEKEEPING,
+    PAYLOAD,
+    RANGING,
+    PAYLOAD,
     None,
 ];
 
 // A frame with an owner that can be no client.
-const BAD_OWNERS: [Option<u8>; 2] = [Some(0), Some(8)];
-
-// Why a step was refused.
-fn reason(refusal: BookingRefusal) -> &'static str {
-    match refusal {
-        BookingRefusal::Reserved => "a source is already reserved",
-        BookingRefusal::Rate => "the rate is out of range",
-        BookingRefusal::Range => "a number is out of range",
-        BookingRefusal::Share => "the share is too small for the rate",
-        BookingRefusal::Over => "the shares overrun the whole",
-    }
-}
+const BAD_OWNERS: [Option<u8>; 2] = [HOUSEKEEPING, Some(8)];
 
 // Tells how a step of a booking went.
-fn tell(rt: &HostRuntime, step: &str, answer: Result<(), BookingRefusal>) -> io::Result<()> {
+fn tell(rt: &impl Print, step: &str, answer: Result<(), BookingRefusal>) -> io::Result<()> {
     match answer {
         Ok(()) => println!(rt; "  booked     {step}"),
         Err(refusal) => {
-            let number = refusal.number();
-            let why = reason(refusal);
-            println!(rt; "  refusal {number}  {step}: {why}")
+            println!(rt;
+                "  refusal {}  {step}: {}",
+                refusal.number(),
+                Reason(refusal)
+            )
         }
     }
 }
 
-pub fn book_frame(rt: &HostRuntime, booking: &mut FrameBooking) -> io::Result<()> {
+// A slot frame, with each step of its booking told. The three bookings are types of their own, and each
+// carries a rate by a share of its own kind, so each is booked by a function of its own.
+pub fn frame_hop(rt: &impl Print) -> io::Result<FrameServer> {
+    rt.println("\nSLOT FRAME: each slot of a round of eight belongs to one source or to nobody")?;
+    let mut booking = FrameBooking::new();
     tell(
         rt,
         "a frame with a slot of client 8",
@@ -71,10 +79,16 @@ pub fn book_frame(rt: &HostRuntime, booking: &mut FrameBooking) -> io::Result<()
         booking.reserve(CAMERA_RATE),
     )?;
     tell(rt, "camera, 3 units in 2 slots", booking.reserve(TOO_FAST))?;
-    tell(rt, "another frame", booking.set_frame(&OWNERS))
+    tell(rt, "another frame", booking.set_frame(&OWNERS))?;
+    Ok(booking.open())
 }
 
-pub fn book_credits(rt: &HostRuntime, booking: &mut CreditBooking) -> io::Result<()> {
+// A hop with credits, likewise.
+pub fn credit_hop(rt: &impl Print) -> io::Result<CreditServer> {
+    rt.println(
+        "\nCREDITS: each source earns its step in every slot and pays 8 for a unit; the first that can pay is served",
+    )?;
+    let mut booking = CreditBooking::new();
     tell(rt, "a price of 0 for a unit", booking.set_denominator(0))?;
     tell(rt, "a price of 8 for a unit", booking.set_denominator(8))?;
     tell(
@@ -102,10 +116,16 @@ pub fn book_credits(rt: &HostRuntime, booking: &mut CreditBooking) -> io::Result
         "camera, 1 unit in 2 slots, step 4, cap 8",
         booking.reserve(CAMERA_RATE, 4, 8),
     )?;
-    tell(rt, "a price of 16 for a unit", booking.set_denominator(16))
+    tell(rt, "a price of 16 for a unit", booking.set_denominator(16))?;
+    Ok(booking.open())
 }
 
-pub fn book_ring(rt: &HostRuntime, booking: &mut RingBooking) -> io::Result<()> {
+// A ring, likewise.
+pub fn ring_hop(rt: &impl Print) -> io::Result<RingServer> {
+    rt.println(
+        "\nRING: the sources take turns, each sending whole blocks up to its quantum and what it saved",
+    )?;
+    let mut booking = RingBooking::new();
     tell(rt, "a ring of 15 units", booking.set_total(15))?;
     tell(rt, "a ring of 128 units", booking.set_total(128))?;
     tell(
@@ -133,5 +153,6 @@ pub fn book_ring(rt: &HostRuntime, booking: &mut RingBooking) -> io::Result<()> 
         "camera, 1 unit in 2 slots, quantum 64",
         booking.reserve(CAMERA_RATE, 64),
     )?;
-    tell(rt, "a ring of 256 units", booking.set_total(256))
+    tell(rt, "a ring of 256 units", booking.set_total(256))?;
+    Ok(booking.open())
 }

@@ -4,15 +4,13 @@
 #![tactic(auto)]
 
 mod bookings;
-mod grants;
+mod reasons;
+mod rows;
 mod serving;
 mod sources;
 mod traffic;
 
-use bookings::{book_credits, book_frame, book_ring};
-use credits::booking::CreditBooking;
-use frame::booking::FrameBooking;
-use ring::booking::RingBooking;
+use bookings::{credit_hop, frame_hop, ring_hop};
 use serving::serve;
 use std::io;
 
@@ -23,35 +21,7 @@ fn main(rt: HostRuntime) -> io::Result<()> {
     rt.println(
         "granted, due, departed and spare in slots. A block is due at (start + latency) / p.",
     )?;
-    run_frame(&rt)?;
-    run_credits(&rt)?;
-    run_ring(&rt)
-}
-
-fn run_frame(rt: &HostRuntime) -> io::Result<()> {
-    rt.println("\nSLOT FRAME: each slot of a round of eight belongs to one source or to nobody")?;
-    let mut booking = FrameBooking::new();
-    book_frame(rt, &mut booking)?;
-    let mut server = booking.open();
-    serve(rt, &mut server)
-}
-
-fn run_credits(rt: &HostRuntime) -> io::Result<()> {
-    rt.println(
-        "\nCREDITS: each source earns its step in every slot and pays 8 for a unit; the first that can pay is served",
-    )?;
-    let mut booking = CreditBooking::new();
-    book_credits(rt, &mut booking)?;
-    let mut server = booking.open();
-    serve(rt, &mut server)
-}
-
-fn run_ring(rt: &HostRuntime) -> io::Result<()> {
-    rt.println(
-        "\nRING: the sources take turns, each sending whole blocks up to its quantum and what it saved",
-    )?;
-    let mut booking = RingBooking::new();
-    book_ring(rt, &mut booking)?;
-    let mut server = booking.open();
-    serve(rt, &mut server)
+    serve(&rt, rt.alloc(), frame_hop(&rt)?)?;
+    serve(&rt, rt.alloc(), credit_hop(&rt)?)?;
+    serve(&rt, rt.alloc(), ring_hop(&rt)?)
 }

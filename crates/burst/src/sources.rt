@@ -1,21 +1,54 @@
 use server::rate::Rate;
+use std::fmt;
 
-// The sources of the station by their client numbers.
-pub const HOUSEKEEPING: u8 = 0;
+// The sources of this program, which no other has, in the order of their client numbers, and one that no hop has booked.
+#[derive(Clone, Copy, PartialEq, Eq, Debug)]
+pub enum Source {
+    Housekeeping,
+    Ranging,
+    Payload,
+    Stranger,
+}
 
-pub const RANGING: u8 = 1;
+impl Source {
+    ghost use Rattle.std.specs.Prelude.{◌≡◌};
+    ghost use Rattle.burst.specs.Sources.{source_of};
 
-pub const PAYLOAD: u8 = 2;
+    // The sources that are booked.
+    pub const BOOKED: [Source; 3] = [Source::Housekeeping, Source::Ranging, Source::Payload];
 
-// A number that no booked source has.
-pub const STRANGER: u8 = 3;
+    // The source's client number.
+    pub fn client(self) -> u8
+        ensures { source_of result ≡ self }
+    {
+        self as u8
+    }
+}
 
-pub fn name_of(client: u8) -> &'static str {
-    match client {
-        HOUSEKEEPING => "housekeeping",
-        RANGING => "ranging",
-        PAYLOAD => "payload",
-        _ => "stranger",
+impl From<u8> for Source {
+    ghost use Rattle.std.specs.Prelude.{◌≡◌};
+    ghost use Rattle.burst.specs.Sources.{source_of};
+
+    ghost from_gives = { λ client source. source ≡ source_of client };
+
+    fn from(client: u8) -> Source {
+        match client {
+            0 => Source::Housekeeping,
+            1 => Source::Ranging,
+            2 => Source::Payload,
+            _ => Source::Stranger,
+        }
+    }
+}
+
+impl fmt::Display for Source {
+    fn fmt<W: fmt::Write>(&self, f: &mut fmt::Formatter<W>) -> fmt::Result {
+        f.pad(match self {
+            Source::Housekeeping => "housekeeping",
+            Source::Ranging => "ranging",
+            Source::Payload => "payload",
+            Source::Stranger => "stranger",
+        })
     }
 }
 

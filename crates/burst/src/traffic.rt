@@ -1,131 +1,40 @@
-use crate::sources::{HOUSEKEEPING, PAYLOAD, RANGING, STRANGER};
+use crate::sources::Source;
 
 // A block that a source hands over in a slot.
 #[derive(Clone, Copy)]
 pub struct Arrival {
     pub slot: u32,
-    pub client: u8,
+    pub source: Source,
     pub label: u32,
     pub length: u8,
 }
 
-// The burst in slot 0, with what must be refused in it, and a few late blocks, by their slots.
-pub const TRAFFIC: [Arrival; 19] = [
-    Arrival {
-        slot: 0,
-        client: HOUSEKEEPING,
-        label: 101,
-        length: 3,
-    },
-    Arrival {
-        slot: 0,
-        client: HOUSEKEEPING,
-        label: 102,
-        length: 5,
-    },
-    Arrival {
-        slot: 0,
-        client: RANGING,
-        label: 201,
-        length: 6,
-    },
-    Arrival {
-        slot: 0,
-        client: RANGING,
-        label: 202,
-        length: 17,
-    },
-    Arrival {
-        slot: 0,
-        client: RANGING,
-        label: 203,
-        length: 6,
-    },
-    Arrival {
-        slot: 0,
-        client: PAYLOAD,
-        label: 301,
-        length: 16,
-    },
-    Arrival {
-        slot: 0,
-        client: PAYLOAD,
-        label: 302,
-        length: 8,
-    },
-    Arrival {
-        slot: 0,
-        client: PAYLOAD,
-        label: 303,
-        length: 8,
-    },
-    Arrival {
-        slot: 0,
-        client: PAYLOAD,
-        label: 304,
-        length: 4,
-    },
-    Arrival {
-        slot: 0,
-        client: PAYLOAD,
-        label: 305,
-        length: 4,
-    },
-    Arrival {
-        slot: 0,
-        client: PAYLOAD,
-        label: 306,
-        length: 4,
-    },
-    Arrival {
-        slot: 0,
-        client: PAYLOAD,
-        label: 307,
-        length: 2,
-    },
-    Arrival {
-        slot: 0,
-        client: PAYLOAD,
-        label: 308,
-        length: 2,
-    },
-    Arrival {
-        slot: 0,
-        client: PAYLOAD,
-        label: 309,
-        length: 2,
-    },
-    Arrival {
-        slot: 0,
-        client: STRANGER,
-        label: 401,
-        length: 1,
-    },
-    Arrival {
-        slot: 12,
-        client: RANGING,
-        label: 204,
-        length: 0,
-    },
-    Arrival {
-        slot: 12,
-        client: RANGING,
-        label: 205,
-        length: 2,
-    },
-    Arrival {
-        slot: 90,
-        client: HOUSEKEEPING,
-        label: 103,
-        length: 1,
-    },
-    Arrival {
-        slot: 90,
-        client: PAYLOAD,
-        label: 310,
-        length: 12,
-    },
-];
+// A table of arrivals, a row for each: slot, source, label and length.
+macro_rules! arrivals {
+    ($($slot:literal $source:ident $label:literal $length:literal,)*) => {
+        [$(Arrival { slot: $slot, source: Source::$source, label: $label, length: $length }),*]
+    };
+}
 
-// The last slot in which a block comes.
-pub const LAST_ARRIVAL: u32 = 90;
+// The burst in slot 0, with what must be refused in it, and a few late blocks, by their slots.
+pub const TRAFFIC: [Arrival; 19] = arrivals![
+    0 Housekeeping 101 3,
+    0 Housekeeping 102 5,
+    0 Ranging 201 6,
+    0 Ranging 202 17,
+    0 Ranging 203 6,
+    0 Payload 301 16,
+    0 Payload 302 8,
+    0 Payload 303 8,
+    0 Payload 304 4,
+    0 Payload 305 4,
+    0 Payload 306 4,
+    0 Payload 307 2,
+    0 Payload 308 2,
+    0 Payload 309 2,
+    0 Stranger 401 1,
+    12 Ranging 204 0,
+    12 Ranging 205 2,
+    90 Housekeeping 103 1,
+    90 Payload 310 12,
+];

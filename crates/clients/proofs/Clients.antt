@@ -7,7 +7,7 @@ use Rattle.server.specs.Meaning.{Client, units_left}
 use Rattle.server.specs.Calls.{served, serve, entered, new_block}
 use Rattle.server.specs.Laws.{Each, Shaped, Ranged, ClientLaws}
 use Rattle.clients.specs.Held.{Held, OnTime, reach, latency_for}
-use Rattle.clients.specs.Serving.{new_client}
+use Rattle.clients.specs.View.{new_client}
 use Rattle.server.proofs.Rows.{order_push, each_push, left_push, left_small, order_served, shaped_served, left_served, length_served}
 use Rattle.clients.proofs.Reach.{reach_served, reach_later, reach_idle, reach_push, debts}
 

@@ -10,11 +10,13 @@ use Rattle.server.specs.declared.rate.Rate.{Rate}
 use Rattle.server.specs.declared.rate.Terms.{Terms}
 use Rattle.server.specs.declared.refusal.Refusal.TheVariants.{Ended}
 use Rattle.server.specs.Meaning.{Client, Meaning}
-use Rattle.server.specs.Calls.{SlotAnswer, length_ok, granted, granting, due_of, start_at, submitted, entered, at, gone, serve, ticked, served_to, Went, Slotted}
+use Rattle.server.specs.Calls.{SlotAnswer, granted, submitted, entered, at, gone, serve, ticked, served_to, Went, Slotted}
 use Rattle.server.specs.Laws.{Ranged, Unused}
 use Rattle.server.proofs.Meanings.{at_elim}
+use Rattle.server.proofs.Grants.{granted_parts}
 use Rattle.clients.specs.Held.{Held, Kept}
-use Rattle.clients.specs.Serving.{no_clients, new_client, rate_ok, terms_ok, admits, admitted, waits, served_client, gives, goes_on, slot_says, slot_leaves}
+use Rattle.clients.specs.View.{new_client}
+use Rattle.clients.specs.Serving.{no_clients, rate_ok, terms_ok, admits, admitted, waits, served_client, gives, goes_on, slot_says, slot_leaves}
 use Rattle.clients.proofs.Clients.{held_new, held_ticked, held_served, held_entered}
 
 -- ## A client comes in
@@ -91,22 +93,6 @@ kept_admitted m x h = by (admits m x) refl
 
 -- ## A block comes in
 
-pub granted_parts : (m : Meaning) (c len : ℕ) → granted m c len ≡ true → (c < m.count) × (0 < len) × (len ≤ 16) × (length (m.client c).waiting < 8)
-granted_parts m c len e =
-    let a = and_parts (ltb c m.count) (length_ok len && ltb (length (m.client c).waiting) 8) e in
-    let b = and_parts (length_ok len) (ltb (length (m.client c).waiting) 8) a.1 in
-    let d = and_parts (ltb 0 len) (leb len 16) b.0 in
-    (ltb-true c m.count a.0, ltb-true 0 len d.0, leb-true len 16 d.1, ltb-true (length (m.client c).waiting) 8 b.1)
-
-pub granting_is : (m : Meaning) (c len : ℕ) → granted m c len ≡ true → granting m c len ≡ Ok (due_of (m.client c) (start_at m.now (m.client c)))
-granting_is m c len e =
-    let g = granted_parts m c len e in
-    let t1 : ltb c m.count ≡ true = lt-ltb c m.count g.0 in
-    let t2 : ltb 0 len ≡ true = lt-ltb 0 len g.1 in
-    let t3 : leb len 16 ≡ true = le-leb len 16 g.2 in
-    let t4 : ltb (length (m.client c).waiting) 8 ≡ true = lt-ltb (length (m.client c).waiting) 8 g.3 in
-    simp (t1, t2, t3, t4)
-
 pub kept_submitted : (m : Meaning) (c label len : ℕ) → Kept m → Kept (submitted m c label len)
 kept_submitted m c label len h = by (granted m c len) refl
   where
@@ -173,6 +159,10 @@ went_on m (Some c) = by (waits m c) refl
         let g = and_parts (ltb c m.count) (ltb 0 (length (m.client c).waiting)) e in
         went_served m c (ltb-true c m.count g.0) (m.client c).waiting refl (ltb-true 0 (length (m.client c).waiting) g.1)
     by false e = refl
+
+-- before the counter's end a slot goes on
+pub slot_goes : (m : Meaning) (who : Option ℕ) → m.now < 4294967295 → goes_on m (served_client m who) ≡ slot_leaves m who
+slot_goes m who early = sym (ap (λ (b : Bool). cond {A = Meaning} b (goes_on m (served_client m who)) m) (lt-ltb m.now 4294967295 early))
 
 -- a slot for a chosen client is what the interface calls a slot
 pub slot_slotted : (m : Meaning) (who : Option ℕ) → m.now < 4294967296 → Slotted m (slot_says m who) (slot_leaves m who)

@@ -1,4 +1,3 @@
-pub mod Queues
 pub mod Reach
 pub mod Clients
 pub mod Kept

@@ -1,20 +1,17 @@
 -- A table of clients: those who come in, and a slot that serves a chosen one. Assumes nothing.
-use Rattle.std.specs.Prelude.{ℕ, ◌+◌, Bool, cond, ◌&&◌, List, [], ◌∷◌, length, Some, None, Ok, Err, Option, nat_le, nat_lt}
+use Rattle.std.specs.Prelude.{ℕ, ◌+◌, Bool, cond, ◌&&◌, List, [], ◌∷◌, length, Some, None, Ok, Err, Option, Result, nat_le, nat_lt}
 use Rattle.server.specs.declared.block.Block.{Block}
 use Rattle.server.specs.declared.block.Served.{Served}
 use Rattle.server.specs.declared.block.Served.TheVariants.{Nothing}
 use Rattle.server.specs.declared.refusal.Refusal.TheVariants.{Ended}
 use Rattle.server.specs.declared.rate.Rate.{Rate}
 use Rattle.server.specs.declared.rate.Terms.{Terms}
-use Rattle.server.specs.Meaning.{Client, Meaning}
+use Rattle.server.specs.Meaning.{Meaning}
 use Rattle.server.specs.Calls.{SlotAnswer, at, gone, ticked, served_to}
-use Rattle.clients.specs.View.{vacant}
+use Rattle.clients.specs.declared.booking.NotAdmitted.{NotAdmitted}
+use Rattle.clients.specs.View.{vacant, new_client}
 
 -- ## Coming in
-
--- a client of these terms, with nothing waiting
-abbrev pub new_client : Terms → Client
-new_client x = record { terms = x; clock = 0; waiting = [] }
 
 -- a table of no clients at slot 0
 abbrev pub no_clients : Meaning
@@ -31,6 +28,10 @@ terms_ok x = rate_ok x.rate && (nat_le x.rate.p x.latency && nat_le x.latency 41
 -- whether there is a place for a client of these terms
 abbrev pub admits : Meaning → Terms → Bool
 admits m x = nat_lt m.count 8 && terms_ok x
+
+-- what a client that would come in is answered
+abbrev pub admission : Meaning → Terms → Result (Unit {0}) NotAdmitted
+admission m x = cond (admits m x) (Ok tt) (Err record {})
 
 -- the client takes the next place
 abbrev pub admitted : Meaning → Terms → Meaning

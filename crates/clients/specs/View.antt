@@ -1,27 +1,26 @@
 -- What the table of clients means. Assumes nothing.
-use Rattle.std.specs.Prelude.{ℕ, List, [], map, take, slice_index, slice_index_or}
-use Rattle.server.specs.declared.block.Block.{Block}
+use Rattle.std.specs.Prelude.{ℕ, List, [], length, map, slice_index_or}
+use Rattle.arrayvec.specs.ArrayVec.{ArrayVec}
 use Rattle.server.specs.declared.rate.Terms.{Terms}
 use Rattle.server.specs.Meaning.{Client, Meaning}
-use Rattle.clients.specs.declared.queue.Queue.{Queue}
-use Rattle.clients.specs.declared.lanes.Lanes.{Lanes}
-
--- the blocks of a queue, oldest first
-abbrev pub waiting_in : Queue → List Block
-waiting_in q = take q.count q.blocks
+use Rattle.clients.specs.declared.lane.Lane.{Lane}
 
 -- the terms of a place that nobody has taken
 abbrev pub vacant : Terms
 vacant = record { rate = record { p = 0; q = 0 }; latency = 0 }
 
--- the client at place k
-abbrev pub client_in : Lanes → ℕ → Client
-client_in l k = record {
-  terms = slice_index_or l.terms k vacant;
-  clock = slice_index l.clocks k;
-  waiting = slice_index_or (map waiting_in l.queues) k [];
-}
+-- a client of these terms, with nothing waiting
+abbrev pub new_client : Terms → Client
+new_client x = record { terms = x; clock = 0; waiting = [] }
 
--- the clients of the first places, at slot t
-abbrev pub viewed : ℕ → Lanes → Meaning
-viewed t l = record { count = l.count; now = t; client = client_in l }
+-- one client
+abbrev pub client_of : Lane → Client
+client_of l = record { terms = l.terms; clock = l.clock; waiting = l.queue.items }
+
+-- the client at place k
+abbrev pub client_in : List Lane → ℕ → Client
+client_in ls k = slice_index_or (map client_of ls) k (new_client vacant)
+
+-- the clients of the taken places, at slot t
+abbrev pub viewed : ℕ → ArrayVec Lane → Meaning
+viewed t ls = record { count = length ls.items; now = t; client = client_in ls.items }

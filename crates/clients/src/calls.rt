@@ -1,21 +1,19 @@
-ghost use Rattle.std.specs.Prelude.{◌≡◌, length};
-ghost use Rattle.server.specs.Calls.{asked, granting, submitted};
-ghost use Rattle.clients.specs.Serving.{no_clients, admits, admitted, waits as waits_in, served_client, slot_says, slot_leaves, front_at};
+ghost use Rattle.std.specs.Prelude.{◌≡◌, ◌<◌, ◌≤◌, IfOk, IfErr};
+ghost use Rattle.server.specs.Calls.{asked, view_of, granting, submitted};
+ghost use Rattle.clients.specs.Serving.{no_clients, admission, admitted, waits as waits_in, served_client, slot_says, slot_leaves, front_at};
+ghost use Rattle.server.specs.declared.refusal.Refusal.TheVariants.{NoClient};
+ghost use Rattle.clients.specs.View.{client_of};
 ghost use Rattle.clients.specs.Meant.{meaning};
 
-use crate::lanes::Lanes;
-use crate::queue::Queue;
+use crate::booking::NotAdmitted;
+use crate::lane::Lane;
 use crate::table::Clients;
 use crate::ticks::in_range;
+use arrayvec::ArrayVec;
 use server::block::{Block, Served};
-use server::rate::{Rate, Terms};
+use server::rate::Terms;
 use server::refusal::Refusal;
-use server::ticks::{due_of, start_at};
-
-const VACANT: Terms = Terms {
-    rate: Rate { p: 0, q: 0 },
-    latency: 0,
-};
+use server::view::View;
 
 impl Clients {
     pub fn new() -> Clients
@@ -23,37 +21,28 @@ impl Clients {
     {
         Clients {
             now: 0,
-            lanes: Lanes {
-                count: 0,
-                terms: [VACANT; 8],
-                clocks: [0; 8],
-                queues: [Queue::new(); 8],
-            },
+            lanes: ArrayVec::new(),
         }
     }
 
-    // A client of these terms takes the next place; false, and nothing changed, where there is none
+    // A client of these terms takes the next place; refused, and nothing changed, where there is none
     // or the terms are outside their ranges.
-    pub fn admit(&mut self, terms: Terms) -> bool
-        ensures answers { result ≡ admits (meaning self.entry.now) terms }
+    pub fn admit(&mut self, terms: Terms) -> Result<(), NotAdmitted>
+        ensures answers { result ≡ admission (meaning self.entry.now) terms }
         ensures leaves { meaning self.exit.now ≡ admitted (meaning self.entry.now) terms }
     {
-        let count = self.lanes.count;
-        if count >= 8 || !in_range(terms) {
-            return false;
+        if !in_range(terms) {
+            return Err(NotAdmitted);
         }
-        let place = count as usize;
-        self.lanes.terms[place] = terms;
-        self.lanes.clocks[place] = 0;
-        self.lanes.queues[place] = Queue::new();
-        self.lanes.count = count + 1;
-        true
+        self.lanes
+            .try_push(Lane::new(terms))
+            .map_err(|_| NotAdmitted)
     }
 
     pub fn count(&self) -> u8
         ensures { result ≡ (meaning self.entry.now).count }
     {
-        self.lanes.count
+        self.lanes.len() as u8
     }
 
     pub fn now(&self) -> u32
@@ -62,50 +51,25 @@ impl Clients {
         self.now
     }
 
-    pub fn terms(&self, client: u8) -> Result<Terms, Refusal>
-        ensures { result ≡ asked (meaning self.entry.now) client (λ x. x.terms) }
+    // All that is told of a client.
+    pub fn view(&self, client: u8) -> Result<View, Refusal>
+        ensures { result ≡ asked (meaning self.entry.now) client view_of }
     {
-        if client >= self.lanes.count {
-            return Err(Refusal::NoClient);
-        }
-        Ok(self.lanes.terms[client as usize])
+        Ok(self.lane(client)?.view())
     }
 
-    pub fn clock(&self, client: u8) -> Result<u64, Refusal>
-        ensures { result ≡ asked (meaning self.entry.now) client (λ x. x.clock) }
-    {
-        if client >= self.lanes.count {
-            return Err(Refusal::NoClient);
-        }
-        Ok(self.lanes.clocks[client as usize])
-    }
-
-    pub fn waiting(&self, client: u8) -> Result<u8, Refusal>
-        ensures { result ≡ asked (meaning self.entry.now) client (λ x. length x.waiting) }
-    {
-        if client >= self.lanes.count {
-            return Err(Refusal::NoClient);
-        }
-        Ok(self.lanes.queues[client as usize].len() as u8)
-    }
-}
-
-impl Clients {
     // Whether the client has a waiting block.
     pub fn waits(&self, client: u8) -> bool
         ensures { result ≡ waits_in (meaning self.entry.now) client }
     {
-        client < self.lanes.count && self.lanes.queues[client as usize].len() > 0
+        self.front(client).is_some()
     }
 
     // The client's oldest waiting block.
     pub fn front(&self, client: u8) -> Option<Block>
         ensures { result ≡ front_at (meaning self.entry.now) client }
     {
-        if client >= self.lanes.count {
-            return None;
-        }
-        self.lanes.queues[client as usize].front()
+        self.lane(client).ok()?.queue.first().copied()
     }
 
     // A block of the client: its due, or a refusal that leaves the table as it was.
@@ -113,24 +77,14 @@ impl Clients {
         ensures answers { result ≡ granting (meaning self.entry.now) client units }
         ensures leaves { meaning self.exit.now ≡ submitted (meaning self.entry.now) client label units }
     {
-        let waiting = self.waiting(client)?;
-        if units < 1 || units > 16 {
+        let view = self.view(client)?;
+        if !(1..=16).contains(&units) {
             return Err(Refusal::BadLength);
         }
-        if waiting >= 8 {
+        if view.waiting >= 8 {
             return Err(Refusal::Full);
         }
-        let place = client as usize;
-        let terms = self.lanes.terms[place];
-        let start = start_at(terms.rate, self.lanes.clocks[place], self.now);
-        self.lanes.clocks[place] = start + terms.rate.q as u64 * units as u64;
-        self.lanes.queues[place].push(Block {
-            label,
-            length: units,
-            left: units,
-            start,
-        });
-        Ok(due_of(terms.rate, terms.latency, start))
+        Ok(self.lanes[client as usize].enter(label, units, self.now))
     }
 
     // One slot, which serves the chosen client if it has a waiting block.
@@ -138,13 +92,13 @@ impl Clients {
         ensures answers { result ≡ slot_says (meaning self.entry.now) who }
         ensures leaves { meaning self.exit.now ≡ slot_leaves (meaning self.entry.now) who }
     {
-        if self.now == 4294967295 {
+        if self.now == u32::MAX {
             return Err(Refusal::Ended);
         }
         let served = self.served_by(who);
         self.now += 1;
         match served {
-            Some(client) => Ok(self.lanes.queues[client as usize].serve(client)),
+            Some(client) => Ok(self.lanes[client as usize].serve(client)),
             None => Ok(Served::Nothing),
         }
     }
@@ -153,9 +107,14 @@ impl Clients {
     fn served_by(&self, who: Option<u8>) -> Option<u8>
         ensures { result ≡ served_client (meaning self.entry.now) who }
     {
-        match who {
-            Some(client) if self.waits(client) => Some(client),
-            _ => None,
-        }
+        who.filter(|client| self.waits(*client))
+    }
+
+    // The client's lane, if there is such a client.
+    fn lane(&self, client: u8) -> Result<&Lane, Refusal>
+        ensures known { IfOk result (λ l. (client < (meaning self.entry.now).count) × (client_of l.now ≡ (meaning self.entry.now).client client)) }
+        ensures unknown { IfErr result (λ e. ((meaning self.entry.now).count ≤ client) × (e ≡ NoClient)) }
+    {
+        self.lanes.get(client as usize).ok_or(Refusal::NoClient)
     }
 }

@@ -5,8 +5,6 @@
 
 pub mod booking;
 mod calls;
-pub mod lanes;
-pub mod queue;
-mod queueing;
+pub mod lane;
 pub mod table;
 pub mod ticks;

@@ -15,12 +15,14 @@ pub fn rate_in_range(rate: Rate) -> bool
 pub(crate) fn in_range(terms: Terms) -> bool
     ensures { result ≡ terms_ok terms }
 {
-    rate_in_range(terms.rate) && terms.rate.p as u32 <= terms.latency && terms.latency <= 4194304
+    rate_in_range(terms.rate)
+        && u32::from(terms.rate.p) <= terms.latency
+        && terms.latency <= 4194304
 }
 
 // The latency in ticks of a client that is late by at most `theta` slots.
 pub fn latency_of(rate: Rate, theta: u32) -> u64
     ensures { result ≡ latency_for rate.p rate.q theta }
 {
-    rate.p as u64 * theta as u64 + rate.q as u64 * 16
+    u64::from(rate.p) * u64::from(theta) + u64::from(rate.q) * 16
 }

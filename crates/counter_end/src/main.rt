@@ -7,16 +7,12 @@ use std::io;
 
 fn main(rt: HostRuntime) -> io::Result<()> {
     let mut server = FrameBooking::new().open();
-    for _ in 0..4294967295u32 {
+    for _ in 0..u32::MAX {
         let _ = server.slot();
     }
     let now = server.now();
     match server.slot() {
-        Ok(_) => println!(rt; "slot served at now {now}")?,
-        Err(refusal) => {
-            let number = refusal.number();
-            println!(rt; "slot refused with {number} at now {now}")?
-        }
+        Ok(_) => println!(rt; "slot served at now {now}"),
+        Err(refusal) => println!(rt; "slot refused with {} at now {now}", refusal.number()),
     }
-    Ok(())
 }

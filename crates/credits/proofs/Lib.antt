@@ -1,4 +1,5 @@
 pub mod Bytes
+pub mod Servers
 pub mod Loops
-pub mod Slots
 pub mod Bookings
+pub mod Slots

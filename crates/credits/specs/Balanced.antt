@@ -1,21 +1,26 @@
 -- What keeps the clients of credit-controlled static priority on time. Assumes nothing.
 use Rattle.std.specs.Prelude.{◌≡◌, ℕ, suc, ◌+◌, ◌-◌, ◌*◌, ◌≤◌, List, [], ◌∷◌, length, take}
+use Rattle.server.specs.declared.rate.Terms.{Terms}
 use Rattle.server.specs.Meaning.{Client, Meaning}
 use Rattle.clients.specs.Held.{reach, latency_for}
 use Rattle.credits.specs.declared.shares.Share.{Share}
 use Rattle.credits.specs.Shares.{theta, credits, caps}
 
--- a client at slot t with its share, where R is what the higher clients' steps leave of the denominator D,
--- and H and C are their credits and their caps
-pub record Fits (D t R H C : ℕ) (x : Client) (s : Share) : Type 0 where
+-- a client's terms with its step and its cap, where R is what the higher clients' steps leave of the denominator D,
+-- and C are their caps
+pub record Carried (D R C : ℕ) (x : Terms) (step most : ℕ) : Type 0 where
   -- the step is at least 1, within what is left, and carries the rate
-  pub some : 1 ≤ s.step
-  pub room : s.step ≤ R
-  pub pays : x.terms.rate.p * D ≤ s.step * x.terms.rate.q
+  pub some : 1 ≤ step
+  pub room : step ≤ R
+  pub pays : x.rate.p * D ≤ step * x.rate.q
   -- the cap is within its range, and the latency is by the higher clients' shares
-  pub high : D ≤ s.cap
-  pub top : s.cap ≤ 64 * D
-  pub late : x.terms.latency ≡ latency_for x.terms.rate.p x.terms.rate.q (theta R C)
+  pub high : D ≤ most
+  pub top : most ≤ 64 * D
+  pub late : x.latency ≡ latency_for x.rate.p x.rate.q (theta R C)
+
+-- a client at slot t with its share, where H are the higher clients' credits
+pub record Fits (D t R H C : ℕ) (x : Client) (s : Share) : Type 0 where
+  pub carried : Carried D R C x.terms s.step s.cap
   -- the higher clients' credits are within their caps
   pub within : H ≤ C
   -- credit keeps up with the clock

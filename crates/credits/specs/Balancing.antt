@@ -4,17 +4,19 @@ use Rattle.std.proofs.Common.{sym, ap, subst, ◌∙◌, arith, mul-le-mul_left,
 use Rattle.std.proofs.Math.Logic.{∥∥₁_elim}
 use Rattle.std.proofs.Math.Bridge.{le_prop}
 use Rattle.std.proofs.lemmas.List.{length_push}
+use Rattle.std.proofs.lemmas.List.Sums.{sum_by-cons}
 use Rattle.std.proofs.lemmas.Bool.{and_parts}
 use Rattle.server.specs.declared.rate.Terms.{Terms}
 use Rattle.server.specs.Meaning.{Client, Meaning}
 use Rattle.server.specs.Calls.{at, granted, submitted, entered, serve}
 use Rattle.server.specs.Laws.{ClientLaws, Lawful}
 use Rattle.server.proofs.Meanings.{at_elim, at_here}
-use Rattle.clients.specs.Held.{Kept, latency_for}
-use Rattle.clients.specs.Serving.{new_client, waits, served_client, goes_on, slot_leaves}
+use Rattle.clients.specs.Held.{Kept}
+use Rattle.clients.specs.View.{new_client}
+use Rattle.clients.specs.Serving.{waits, served_client, goes_on, slot_leaves}
 use Rattle.credits.specs.declared.shares.Share.{Share}
-use Rattle.credits.specs.Shares.{steps, caps, credits, theta, no_share, Small, affords, eligible, by_place, lowest, served, chosen, Pays, next_credit, share_after, earned}
-use Rattle.credits.specs.Balanced.{Fits, AllFit, Balanced, Capped}
+use Rattle.credits.specs.Shares.{steps, caps, credits, no_share, Small, affords, eligible, by_place, lowest, served, chosen, Pays, next_credit, share_after, earned}
+use Rattle.credits.specs.Balanced.{Carried, Fits, AllFit, Balanced, Capped}
 use Rattle.credits.specs.Fitting.{MovedFree, MovedPaid, fits_free, fits_after, fits_paid, moved_free, moved_after, moved_paid, fits_entered, fits_new, fits_laws}
 use Rattle.credits.specs.Places.{length_by_place}
 
@@ -26,27 +28,28 @@ module _ (D t : ℕ) (cs : ℕ → Client) where
   fit-capped R H C k zero [] g = omega (arith, g)
   fit-capped R H C k (suc j) [] g = omega (arith, g)
   fit-capped R H C k zero (x ∷ xs) g = omega (arith, g.0.within)
-  fit-capped R H C k (suc j) (x ∷ xs) g = omega (arith, fit-capped (R - x.step) (H + x.credit) (C + x.cap) (suc k) j xs g.1)
+  fit-capped R H C k (suc j) (x ∷ xs) g =
+      omega (arith, fit-capped (R - x.step) (H + x.credit) (C + x.cap) (suc k) j xs g.1, sum_by-cons (λ (s : Share). s.credit) x (take j xs), sum_by-cons (λ (s : Share). s.cap) x (take j xs))
 
   -- the steps are within what is left of the denominator
   fit-room : (R H C k : ℕ) (xs : List Share) → AllFit D t R H C k cs xs → steps xs ≤ R
   fit-room R H C k [] g = omega arith
-  fit-room R H C k (x ∷ xs) g = omega (arith, g.0.room, fit-room (R - x.step) (H + x.credit) (C + x.cap) (suc k) xs g.1)
+  fit-room R H C k (x ∷ xs) g = omega (arith, g.0.carried.room, fit-room (R - x.step) (H + x.credit) (C + x.cap) (suc k) xs g.1, sum_by-cons (λ (s : Share). s.step) x xs)
 
   fit-caps : (R H C k : ℕ) (xs : List Share) → AllFit D t R H C k cs xs → caps xs ≤ 64 * D * length xs
   fit-caps R H C k [] g = omega arith
-  fit-caps R H C k (x ∷ xs) g = omega (arith, g.0.top, fit-caps (R - x.step) (H + x.credit) (C + x.cap) (suc k) xs g.1)
+  fit-caps R H C k (x ∷ xs) g = omega (arith, g.0.carried.top, fit-caps (R - x.step) (H + x.credit) (C + x.cap) (suc k) xs g.1, sum_by-cons (λ (s : Share). s.cap) x xs)
 
   fit-within : (R H C k : ℕ) (xs : List Share) → AllFit D t R H C k cs xs → H ≤ C
   fit-within R H C k [] g = g
   fit-within R H C k (x ∷ xs) g = g.0.within
 
-  fit_small : (R H C k j : ℕ) (xs : List Share) → D ≤ 1024 → R ≤ 1024 → j < length xs → AllFit D t R H C k cs xs
-      → (get_or xs j no_share).credit + (get_or xs j no_share).step ≤ C + 65536 * length xs + 1024
-  fit_small R H C k j [] d r l g = absurd (omega (arith, l))
-  fit_small R H C k zero (x ∷ xs) d r l g = omega (arith, fit-within (R - x.step) (H + x.credit) (C + x.cap) (suc k) xs g.1, g.0.top, g.0.room)
-  fit_small R H C k (suc j) (x ∷ xs) d r l g =
-      omega (arith, fit_small (R - x.step) (H + x.credit) (C + x.cap) (suc k) j xs d (omega (arith, r)) (omega (arith, l)) g.1, g.0.top)
+  fit_small : (R H C k j : ℕ) (d : Share) (xs : List Share) → D ≤ 1024 → R ≤ 1024 → j < length xs → AllFit D t R H C k cs xs
+      → (get_or xs j d).credit + (get_or xs j d).step ≤ C + 65536 * length xs + 1024
+  fit_small R H C k j s [] d r l g = absurd (omega (arith, l))
+  fit_small R H C k zero s (x ∷ xs) d r l g = omega (arith, fit-within (R - x.step) (H + x.credit) (C + x.cap) (suc k) xs g.1, g.0.carried.top, g.0.carried.room)
+  fit_small R H C k (suc j) s (x ∷ xs) d r l g =
+      omega (arith, fit_small (R - x.step) (H + x.credit) (C + x.cap) (suc k) j s xs d (omega (arith, r)) (omega (arith, l)) g.1, g.0.carried.top)
 
 module _ (m : Meaning) (D : ℕ) (xs : List Share) (b : ∥ Balanced m D xs ∥₁) where
   pub balanced_capped : Capped xs
@@ -61,7 +64,7 @@ module _ (m : Meaning) (D : ℕ) (xs : List Share) (b : ∥ Balanced m D xs ∥�
       omega (arith, fit-caps D m.now m.client D 0 0 0 xs h.fit, mul-le-mul_left {m = length xs} {n = 8} (64 * D) l))
 
   pub balanced_small : D ≤ 1024 → m.count ≤ 8 → Small xs
-  balanced_small d few k l = ∥∥₁_elim b le_prop (λ h. omega (arith, fit_small D m.now m.client D 0 0 0 k xs d d l h.fit, h.each))
+  balanced_small d few k s l = ∥∥₁_elim b le_prop (λ h. omega (arith, fit_small D m.now m.client D 0 0 0 k s xs d d l h.fit, h.each))
 
 -- ## Whom a slot serves
 
@@ -69,7 +72,7 @@ module _ (m : Meaning) (D : ℕ) where
   -- it is a client with a block, and its share pays for a unit
   lowest-found : (k c : ℕ) (xs : List Share) → lowest k (by_place (eligible m D) k xs) ≡ Some c
       → (k ≤ c) × (c < k + length xs) × (eligible m D c (slice_index_or xs (c - k) no_share) ≡ true)
-  lowest-found k c [] e = let z : ◌≡◌ {A = ℕ} 0 1 = cc in absurd (omega arith)
+  lowest-found k c [] e = absurd cc
   lowest-found k c (x ∷ xs) e = by (lowest-found (suc k) c xs) (eligible m D k x) refl e
     where
       by : (lowest (suc k) (by_place (eligible m D) (suc k) xs) ≡ Some c → (suc k ≤ c) × (c < suc k + length xs) × (eligible m D c (slice_index_or xs (c - suc k) no_share) ≡ true))
@@ -100,7 +103,7 @@ module _ (m : Meaning) (D : ℕ) where
     served_pays k l = by (served m D xs) refl
       where
         by : (o : Option ℕ) → served m D xs ≡ o → chosen o k ≡ true → D ≤ (get_or xs k no_share).credit + (get_or xs k no_share).step
-        by None e f = let z : ◌≡◌ {A = ℕ} 0 1 = cc in absurd (omega arith)
+        by None e f = absurd cc
         by (Some c) e f =
             let s : c - 0 ≡ k = omega (arith, eqb-true k c f) in
             let a = (and_parts (waits m c) (affords D (slice_index_or xs (c - 0) no_share)) (lowest-found 0 c xs e).2).1 in
@@ -230,44 +233,36 @@ balanced_submitted D m xs c label len some b = by (granted m c len)
 
 -- ## A reservation
 
--- with no clients there is nothing to balance
-pub balanced_empty : (m : Meaning) (D : ℕ) (xs : List Share) → m.count ≡ 0 → ∥ Balanced m D (take m.count xs) ∥₁
-balanced_empty m D xs z = ∣ subst (λ (n : ℕ). Balanced m D (take n xs)) (sym z) (record { each = sym z; fit = omega arith }) ∣₁
+-- the same fact at sums that are the same
+fits_at : (D t : ℕ) (cs : ℕ → Client) (y : Share) (R R' H H' C C' k k' : ℕ) → R ≡ R' → H ≡ H' → C ≡ C' → k ≡ k' → Fits D t R H C (cs k) y → Fits D t R' H' C' (cs k') y
+fits_at D t cs y R R' H H' C C' k k' a b c d h =
+    subst (λ (r : ℕ). Fits D t r H' C' (cs k') y) a
+    (subst (λ (e : ℕ). Fits D t R e C' (cs k') y) b
+    (subst (λ (v : ℕ). Fits D t R H v (cs k') y) c
+    (subst (λ (i : ℕ). Fits D t R H C (cs i) y) d h)))
 
 -- one client more, behind the others
 fit_push : (D t R H C k : ℕ) (cs : ℕ → Client) (xs : List Share) (y : Share) → AllFit D t R H C k cs xs
     → (H + credits xs ≤ C + caps xs → Fits D t (R - steps xs) (H + credits xs) (C + caps xs) (cs (k + length xs)) y) → y.credit ≤ y.cap
     → AllFit D t R H C k cs (xs ++ (y ∷ []))
-fit_push D t R H C k cs [] y g f low =
-    let a : R - 0 ≡ R = omega arith in
-    let b : H + 0 ≡ H = omega arith in
-    let c : C + 0 ≡ C = omega arith in
-    let d : k + 0 ≡ k = omega arith in (
-      subst (λ (r : ℕ). Fits D t r H C (cs k) y) a
-          (subst (λ (h : ℕ). Fits D t (R - 0) h C (cs k) y) b
-          (subst (λ (v : ℕ). Fits D t (R - 0) (H + 0) v (cs k) y) c
-          (subst (λ (i : ℕ). Fits D t (R - 0) (H + 0) (C + 0) (cs i) y) d (f (omega (arith, g)))))),
-      omega (arith, g, low),
-    )
+fit_push D t R H C k cs [] y g f low = (
+  fits_at D t cs y (R - 0) R (H + 0) H (C + 0) C (k + 0) k (omega arith) (omega arith) (omega arith) (omega arith) (f (omega (arith, g))),
+  omega (arith, g, low),
+)
 fit_push D t R H C k cs (x ∷ xs) y g f low =
-    let a : R - (x.step + steps xs) ≡ R - x.step - steps xs = omega arith in
-    let b : H + (x.credit + credits xs) ≡ H + x.credit + credits xs = omega arith in
-    let c : C + (x.cap + caps xs) ≡ C + x.cap + caps xs = omega arith in
-    let d : k + suc (length xs) ≡ suc k + length xs = omega arith in (
+    let a = sum_by-cons (λ (s : Share). s.step) x xs in
+    let b = sum_by-cons (λ (s : Share). s.credit) x xs in
+    let c = sum_by-cons (λ (s : Share). s.cap) x xs in (
       g.0,
       fit_push D t (R - x.step) (H + x.credit) (C + x.cap) (suc k) cs xs y g.1
-          (λ l.
-          subst (λ (r : ℕ). Fits D t r (H + x.credit + credits xs) (C + x.cap + caps xs) (cs (suc k + length xs)) y) a
-          (subst (λ (h : ℕ). Fits D t (R - (x.step + steps xs)) h (C + x.cap + caps xs) (cs (suc k + length xs)) y) b
-          (subst (λ (v : ℕ). Fits D t (R - (x.step + steps xs)) (H + (x.credit + credits xs)) v (cs (suc k + length xs)) y) c
-          (subst (λ (i : ℕ). Fits D t (R - (x.step + steps xs)) (H + (x.credit + credits xs)) (C + (x.cap + caps xs)) (cs i) y) d (f (omega (arith, l)))))))
+          (λ l. fits_at D t cs y (R - steps (x ∷ xs)) (R - x.step - steps xs) (H + credits (x ∷ xs)) (H + x.credit + credits xs) (C + caps (x ∷ xs)) (C + x.cap + caps xs)
+          (k + suc (length xs)) (suc k + length xs) (omega (arith, a)) (omega (arith, b)) (omega (arith, c)) (omega arith) (f (omega (arith, l, b, c))))
           low,
     )
 
-pub balanced_push : (m : Meaning) (D n c : ℕ) (xs : List Share) (x : Terms) → 1 ≤ n → n ≤ D - steps xs → x.rate.p * D ≤ n * x.rate.q → D ≤ c → c ≤ 64 * D
-    → x.latency ≡ latency_for x.rate.p x.rate.q (theta (D - steps xs) (caps xs)) → Balanced m D xs
+pub balanced_push : (m : Meaning) (D n c : ℕ) (xs : List Share) (x : Terms) → Carried D (D - steps xs) (caps xs) x n c → Balanced m D xs
     → Balanced (record { count = m.count + 1; now = m.now; client = at m.count (λ _. new_client x) m.client }) D (xs ++ (record { step = n; cap = c; credit = c } ∷ []))
-balanced_push m D n c xs x some room pays high top late b =
+balanced_push m D n c xs x carried b =
     let cs = at m.count (λ _. new_client x) m.client in
     let y : Share = record { step = n; cap = c; credit = c } in
     let here : new_client x ≡ cs (0 + length xs) =
@@ -279,8 +274,8 @@ balanced_push m D n c xs x some room pays high top late b =
           (λ j R H C s l h. at_elim (λ (v : Client). Fits D m.now R H C v s) m.count j (λ _. new_client x) m.client (λ e. absurd (omega (arith, e, l, b.each))) (λ _. h))
           b.fit)
           (λ l. subst (λ (v : Client). Fits D m.now (D - steps xs) (0 + credits xs) (0 + caps xs) v y) here
-          (fits_new D m.now (D - steps xs) (0 + credits xs) (0 + caps xs) n c x some room pays high top
-          (late ∙ ap (λ (k : ℕ). latency_for x.rate.p x.rate.q (theta (D - steps xs) k)) (let z : caps xs ≡ 0 + caps xs = omega arith in z)) l))
+          (fits_new D m.now (D - steps xs) (0 + credits xs) (0 + caps xs) n c x
+          (subst (λ (k : ℕ). Carried D (D - steps xs) k x n c) (let z : caps xs ≡ 0 + caps xs = omega arith in z) carried) l))
           (omega arith);
     }
 

@@ -5,12 +5,12 @@ use Rattle.server.specs.declared.rate.Terms.{Terms}
 use Rattle.server.specs.Meaning.{Client}
 use Rattle.server.specs.Calls.{serve, entered}
 use Rattle.server.specs.Laws.{ClientLaws}
-use Rattle.clients.specs.Held.{Held, reach, latency_for}
-use Rattle.clients.specs.Serving.{new_client}
+use Rattle.clients.specs.Held.{Held, reach}
+use Rattle.clients.specs.View.{new_client}
 use Rattle.clients.proofs.Clients.{reach_entered, reach_ticked, reach_gone, reach_empty, laws_on_time}
 use Rattle.credits.specs.declared.shares.Share.{Share}
 use Rattle.credits.specs.Shares.{theta, affords, next_credit, share_after}
-use Rattle.credits.specs.Balanced.{Fits}
+use Rattle.credits.specs.Balanced.{Carried, Fits}
 use Rattle.credits.specs.Numbers.{saved_waits, saved_idle, saved_served, early, ahead_higher, ahead_served, ahead_early, on_time}
 
 -- how the higher clients' credits H moved to H' in a slot that served none of them, or one of them
@@ -40,34 +40,24 @@ module _ (D t R H C : ℕ) (x : Client) (s : Share) (some : 1 ≤ D) (h : Fits D
 
   saved-unserved : (w : Bool) → (w ≡ false → length x.waiting ≡ 0)
       → D * p * (t + 1) + q * s.cap ≤ D * reach (t + 1) x + q * next_credit D w false s
-  saved-unserved true none = saved_waits D p q s.step s.cap s.credit t (reach t x) (reach (t + 1) x) h.pays (reach_ticked t x) h.saved
+  saved-unserved true none = saved_waits D p q s.step s.cap s.credit t (reach t x) (reach (t + 1) x) h.carried.pays (reach_ticked t x) h.saved
   saved-unserved false none =
-      saved_idle D p q s.step s.cap s.credit t (reach t x) (reach (t + 1) x) h.pays (reach_ticked t x) (reach_empty (t + 1) x (none refl)) h.saved
+      saved_idle D p q s.step s.cap s.credit t (reach t x) (reach (t + 1) x) h.carried.pays (reach_ticked t x) (reach_empty (t + 1) x (none refl)) h.saved
 
   -- not eligible, and no higher client was served
   pub fits_free : (w : Bool) (H' : ℕ) → (w ≡ false → length x.waiting ≡ 0) → (w && affords D s) ≡ false → MovedFree D R H C H' → Fits D (t + 1) R H' C x (share_after D w false s)
   fits_free w H' none e m = record {
-    some = h.some;
-    room = h.room;
-    pays = h.pays;
-    high = h.high;
-    top = h.top;
-    late = h.late;
+    carried = h.carried;
     within = m.0;
     saved = saved-unserved w none;
     ahead = ahead_early p (t + 1) R H' C (reach (t + 1) x) m.0
-        (early D p q s.cap (next_credit D w false s) (t + 1) (reach (t + 1) x) some (credit_low D w s e h.high) (saved-unserved w none));
+        (early D p q s.cap (next_credit D w false s) (t + 1) (reach (t + 1) x) some (credit_low D w s e h.carried.high) (saved-unserved w none));
   }
 
   -- a higher client was served
   pub fits_after : (w : Bool) (H' : ℕ) → (w ≡ false → length x.waiting ≡ 0) → MovedPaid R H H' → Fits D (t + 1) R H' C x (share_after D w false s)
   fits_after w H' none m = record {
-    some = h.some;
-    room = h.room;
-    pays = h.pays;
-    high = h.high;
-    top = h.top;
-    late = h.late;
+    carried = h.carried;
     within = omega (arith, m, h.within);
     saved = saved-unserved w none;
     ahead = ahead_higher p t R H C H' (reach t x) (reach (t + 1) x) m (reach_ticked t x) h.ahead;
@@ -79,27 +69,22 @@ module _ (D t R H C : ℕ) (x : Client) (s : Share) (some : 1 ≤ D) (h : Fits D
       let can : D ≤ s.credit + s.step = leb-true D (s.credit + s.step) e in
       let up : reach t x + q ≤ reach (t + 1) (serve x) = reach_gone t x waiting held in
       record {
-        some = h.some;
-        room = h.room;
-        pays = h.pays;
-        high = h.high;
-        top = h.top;
-        late = h.late;
+        carried = h.carried;
         within = m.0;
-        saved = saved_served D p q s.step s.cap s.credit t (reach t x) (reach (t + 1) (serve x)) h.pays can up h.saved;
-        ahead = ahead_served D p q s.step t R H C H' (reach t x) (reach (t + 1) (serve x)) h.pays h.room m.1 up h.ahead;
+        saved = saved_served D p q s.step s.cap s.credit t (reach t x) (reach (t + 1) (serve x)) h.carried.pays can up h.saved;
+        ahead = ahead_served D p q s.step t R H C H' (reach t x) (reach (t + 1) (serve x)) h.carried.pays h.carried.room m.1 up h.ahead;
       }
 
   -- ## The sums with this client's credit
 
   pub moved_free : (w : Bool) (H' : ℕ) → (w && affords D s) ≡ false → MovedFree D R H C H' → MovedFree D (R - s.step) (H + s.credit) (C + s.cap) (H' + next_credit D w false s)
-  moved_free w H' e m = (omega (arith, m.0, credit_low D w s e h.high), omega (arith, m.1, credit_most D w s, h.room))
+  moved_free w H' e m = (omega (arith, m.0, credit_low D w s e h.carried.high), omega (arith, m.1, credit_most D w s, h.carried.room))
 
   pub moved_after : (w : Bool) (H' : ℕ) → MovedPaid R H H' → MovedPaid (R - s.step) (H + s.credit) (H' + next_credit D w false s)
-  moved_after w H' m = omega (arith, m, credit_most D w s, h.room)
+  moved_after w H' m = omega (arith, m, credit_most D w s, h.carried.room)
 
   pub moved_paid : (w : Bool) (H' : ℕ) → affords D s ≡ true → MovedFree D R H C H' → MovedPaid (R - s.step) (H + s.credit) (H' + next_credit D w true s)
-  moved_paid w H' e m = omega (arith, m.1, leb-true D (s.credit + s.step) e, h.room)
+  moved_paid w H' e m = omega (arith, m.1, leb-true D (s.credit + s.step) e, h.carried.room)
 
   -- ## A block comes in
 
@@ -107,12 +92,7 @@ module _ (D t R H C : ℕ) (x : Client) (s : Share) (some : 1 ≤ D) (h : Fits D
   fits_entered label len =
       let z = reach_entered t label len x in
       record {
-        some = h.some;
-        room = h.room;
-        pays = h.pays;
-        high = h.high;
-        top = h.top;
-        late = h.late;
+        carried = h.carried;
         within = h.within;
         saved = omega (arith, h.saved, ap (λ (f : ℕ). D * f) z);
         ahead = omega (arith, h.ahead, ap (λ (f : ℕ). R * f) z);
@@ -122,20 +102,14 @@ module _ (D t R H C : ℕ) (x : Client) (s : Share) (some : 1 ≤ D) (h : Fits D
 
   -- on time with θ, and so within the laws
   pub fits_laws : Held t x → ClientLaws t x
-  fits_laws held = laws_on_time (theta R C) t x held h.late (on_time p t R H C (reach t x) (omega (arith, h.some, h.room)) h.ahead)
+  fits_laws held = laws_on_time (theta R C) t x held h.carried.late (on_time p t R H C (reach t x) (omega (arith, h.carried.some, h.carried.room)) h.ahead)
 
 -- a client that is reserved, its credit at its cap
-pub fits_new : (D t R H C n c : ℕ) (x : Terms) → 1 ≤ n → n ≤ R → x.rate.p * D ≤ n * x.rate.q → D ≤ c → c ≤ 64 * D
-    → x.latency ≡ latency_for x.rate.p x.rate.q (theta R C) → H ≤ C → Fits D t R H C (new_client x) (record { step = n; cap = c; credit = c })
-fits_new D t R H C n c x some room pays high top late within =
+pub fits_new : (D t R H C n c : ℕ) (x : Terms) → Carried D R C x n c → H ≤ C → Fits D t R H C (new_client x) (record { step = n; cap = c; credit = c })
+fits_new D t R H C n c x carried within =
     let r = reach_empty t (new_client x) refl in
     record {
-      some = some;
-      room = room;
-      pays = pays;
-      high = high;
-      top = top;
-      late = late;
+      carried = carried;
       within = within;
       saved = omega (arith, mul-le-mul_left {m = x.rate.p * t} {n = reach t (new_client x)} D r);
       ahead = ahead_early x.rate.p t R H C (reach t (new_client x)) within r;

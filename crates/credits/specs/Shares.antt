@@ -1,42 +1,34 @@
 -- The clients' shares of the slots: whom a slot serves, and what each client's credit is after it. Assumes nothing.
-use Rattle.std.specs.Prelude.{◌≡◌, ℕ, suc, ◌+◌, ◌-◌, ◌*◌, ◌/◌, ◌^◌, ◌<◌, ◌≤◌, min, Bool, true, false, cond, ◌&&◌, List, [], ◌∷◌, length, take, Some, None, Option, ◌==◌, nat_le, slice_index_or}
+use Rattle.std.specs.Prelude.{◌≡◌, ℕ, suc, ◌+◌, ◌-◌, ◌*◌, ◌/◌, ◌^◌, ◌<◌, ◌≤◌, min, Bool, true, false, cond, ◌&&◌, List, [], ◌∷◌, length, All, sum_by, Some, None, Option, ◌==◌, nat_le, slice_index_or}
 use Rattle.server.specs.Meaning.{Meaning}
 use Rattle.clients.specs.Serving.{waits}
 use Rattle.credits.specs.declared.shares.Share.{Share}
-use Rattle.credits.specs.declared.shares.Shares.{Shares}
-
--- the shares of the first n clients, highest priority first
-abbrev pub shares_in : ℕ → Shares → List Share
-shares_in n t = take n t.places
 
 -- ## Sums
 
 -- the steps of these clients together
 abbrev pub steps : List Share → ℕ
-steps [] = 0
-steps (x ∷ xs) = x.step + steps xs
+steps xs = sum_by (λ (x : Share). x.step) xs
 
 -- their caps together
 abbrev pub caps : List Share → ℕ
-caps [] = 0
-caps (x ∷ xs) = x.cap + caps xs
+caps xs = sum_by (λ (x : Share). x.cap) xs
 
 -- their credits together
 abbrev pub credits : List Share → ℕ
-credits [] = 0
-credits (x ∷ xs) = x.credit + credits xs
+credits xs = sum_by (λ (x : Share). x.credit) xs
 
 -- the slots by which a client may be late: the higher clients' caps over what their steps leave, rounded up
 abbrev pub theta : (rest caps : ℕ) → ℕ
 theta R C = (C + (R - 1)) / R
 
--- a place that nobody has taken
+-- what is read past the last client
 abbrev pub no_share : Share
 no_share = record { step = 0; cap = 0; credit = 0 }
 
 -- each credit and step fit a word together
 abbrev pub Small : List Share → Type 0
-Small xs = (k : ℕ) → k < length xs → (slice_index_or xs k no_share).credit + (slice_index_or xs k no_share).step < 2 ^ 32
+Small xs = All (λ (x : Share). x.credit + x.step < 2 ^ 32) xs
 
 -- ## Whom a slot serves
 

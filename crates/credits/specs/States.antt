@@ -13,7 +13,7 @@ use Rattle.clients.specs.Serving.{no_clients, rate_ok, admitted, slot_says, slot
 use Rattle.credits.specs.declared.shares.Share.{Share}
 use Rattle.credits.specs.declared.booking.CreditBooking.{CreditBooking}
 use Rattle.credits.specs.declared.credit_server.CreditServer.{CreditServer}
-use Rattle.credits.specs.Shares.{shares_in, steps, caps, theta, by_place, served, earned}
+use Rattle.credits.specs.Shares.{steps, caps, theta, by_place, served, earned}
 
 -- the clients, the denominator, and each client's share, highest priority first
 pub record State : Type 0 where
@@ -21,11 +21,13 @@ pub record State : Type 0 where
   pub denominator : ℕ
   pub shares : List Share
 
-abbrev pub booked_in : CreditBooking → State
-booked_in b = record { clients = meaning b.clients; denominator = b.table.denominator; shares = shares_in (meaning b.clients).count b.table }
-
+-- what is known of a server
 abbrev pub state_of : CreditServer → State
-state_of x = record { clients = meaning x.clients; denominator = x.table.denominator; shares = shares_in (meaning x.clients).count x.table }
+state_of x = record { clients = meaning x.clients; denominator = x.denominator; shares = x.shares.items }
+
+-- and of a booking, which holds the server that it opens as
+abbrev pub booked_in : CreditBooking → State
+booked_in b = state_of b.server
 
 -- ## Booking
 

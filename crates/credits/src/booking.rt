@@ -1,22 +1,11 @@
-ghost use Rattle.std.specs.Prelude.{◌≡◌, ◌≤◌, length as size};
 ghost use Rattle.server.specs.Laws.{Unused};
 ghost use Rattle.clients.specs.Meant.{meaning};
-ghost use Rattle.credits.specs.Shares.{shares_in, steps};
-ghost use Rattle.credits.specs.Balanced.{Balanced, Capped};
 
-use crate::shares::Shares;
-use clients::table::Clients;
+use crate::credit_server::CreditServer;
 
-// A denominator and the clients reserved with it so far: their steps together are within it.
+// The server that opening gives: a denominator and the clients reserved with it so far, none of them used.
 #[derive(Drop)]
 pub struct CreditBooking {
-    pub(crate) clients: Clients,
-    pub(crate) table: Shares,
-    ghost full: { size table.places ≡ 8 },
-    ghost some: { 1 ≤ table.denominator },
-    ghost most: { table.denominator ≤ 1024 },
-    ghost room: { steps (shares_in (meaning clients).count table) ≤ table.denominator },
-    ghost capped: { Capped (shares_in (meaning clients).count table) },
-    ghost unused: { ∥ Unused (meaning clients) ∥₁ },
-    ghost balanced: { ∥ Balanced (meaning clients) table.denominator (shares_in (meaning clients).count table) ∥₁ },
+    pub(crate) server: CreditServer,
+    ghost unused: { ∥ Unused (meaning server.clients) ∥₁ },
 }

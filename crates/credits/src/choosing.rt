@@ -1,18 +1,15 @@
-ghost use Rattle.std.specs.Prelude.{◌≡◌, ◌+◌, ◌^◌, ◌<◌, ◌≤◌, length as size};
+ghost use Rattle.std.specs.Prelude.{◌≡◌};
 ghost use Rattle.clients.specs.Meant.{meaning};
-ghost use Rattle.credits.specs.Shares.{shares_in, Small, eligible as eligible_in, by_place, byte_of, served as served_of};
+ghost use Rattle.credits.specs.Shares.{eligible as eligible_in, by_place, byte_of, served as served_of};
 
-use crate::shares::{Share, Shares};
-use clients::table::Clients;
+use crate::credit_server::CreditServer;
 
-impl Shares {
+impl CreditServer {
     // The client that the next slot serves: the lowest bit of the byte of the eligible clients.
-    pub(crate) fn served(&self, clients: &Clients) -> Option<u8>
-        requires places { ((meaning clients.now).count ≤ 8) × (size self.now.places ≡ 8) }
-        requires small { Small (shares_in (meaning clients.now).count self.now) }
-        ensures { result ≡ served_of (meaning clients.entry.now) self.now.denominator (shares_in (meaning clients.entry.now).count self.now) }
+    pub(crate) fn served(&self) -> Option<u8>
+        ensures { result ≡ served_of (meaning self.now.clients) self.now.denominator self.now.shares.items }
     {
-        let byte = self.eligible(clients);
+        let byte = self.eligible();
         if byte == 0 {
             None
         } else {
@@ -20,31 +17,16 @@ impl Shares {
         }
     }
 
-    // The eligible clients as one byte, bit c for client c.
-    fn eligible(&self, clients: &Clients) -> u8
-        requires places { ((meaning clients.now).count ≤ 8) × (size self.now.places ≡ 8) }
-        requires small { Small (shares_in (meaning clients.now).count self.now) }
-        ensures { result ≡ byte_of (by_place (eligible_in (meaning clients.entry.now) self.now.denominator) 0 (shares_in (meaning clients.entry.now).count self.now)) }
+    // The eligible clients as one byte, bit c for client c: each has a waiting block, and its share pays for a unit.
+    fn eligible(&self) -> u8
+        ensures { result ≡ byte_of (by_place (eligible_in (meaning self.now.clients) self.now.denominator) 0 self.now.shares.items) }
     {
         let mut byte = 0u8;
-        for client in 0..clients.count() {
-            if is_eligible(
-                clients,
-                client,
-                self.places[client as usize],
-                self.denominator,
-            ) {
-                byte |= 1 << client;
+        for (place, share) in self.shares.iter().enumerate() {
+            if self.clients.waits(place as u8) && share.affords(self.denominator) {
+                byte |= 1 << place;
             }
         }
         byte
     }
-}
-
-// Whether the client has a waiting block, and its share pays for a unit.
-fn is_eligible(clients: &Clients, client: u8, share: Share, denominator: u32) -> bool
-    requires { share.credit + share.step < 2 ^ 32 }
-    ensures { result ≡ eligible_in (meaning clients.entry.now) denominator client share }
-{
-    clients.waits(client) && share.credit + share.step >= denominator
 }

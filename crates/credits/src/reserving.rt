@@ -1,21 +1,16 @@
-ghost use Rattle.std.specs.Prelude.{◌≡◌, ◌+◌, ◌^◌, ◌<◌, ◌≤◌};
+ghost use Rattle.std.specs.Prelude.{◌≡◌, ◌-◌};
 ghost use Rattle.server.specs.Laws.{Unused};
-ghost use Rattle.credits.specs.Shares.{steps as steps_of, caps as caps_of, theta as theta_of};
+ghost use Rattle.credits.specs.Shares.{steps, caps as caps_of};
 ghost use Rattle.credits.specs.States.{booked_in, state_of, fresh, denominator_ok, denominator_says, denominator_set, share_ok, terms_say, reserve_says, reserved};
 
 use crate::booking::CreditBooking;
 use crate::credit_server::CreditServer;
-use crate::shares::{Share, Shares};
+use crate::shares::Share;
+use arrayvec::ArrayVec;
 use clients::booking::BookingRefusal;
 use clients::table::Clients;
 use clients::ticks::{latency_of, rate_in_range};
 use server::rate::{Rate, Terms};
-
-const NO_SHARE: Share = Share {
-    step: 0,
-    cap: 0,
-    credit: 0,
-};
 
 impl CreditBooking {
     // Denominator 1, and no clients.
@@ -23,10 +18,10 @@ impl CreditBooking {
         ensures { booked_in result ≡ fresh }
     {
         CreditBooking {
-            clients: Clients::new(),
-            table: Shares {
+            server: CreditServer {
+                clients: Clients::new(),
                 denominator: 1,
-                places: [NO_SHARE; 8],
+                shares: ArrayVec::new(),
             },
         }
     }
@@ -36,31 +31,31 @@ impl CreditBooking {
         ensures answers { result ≡ denominator_says (booked_in self.old) denominator }
         ensures leaves { booked_in self.new ≡ denominator_set (booked_in self.old) denominator }
     {
-        if self.clients.count() > 0 {
+        let server = &mut self.server;
+        if server.clients.count() > 0 {
             return Err(BookingRefusal::Reserved);
         }
         if !denominator_in_range(denominator) {
             return Err(BookingRefusal::Range);
         }
-        self.table.denominator = denominator;
+        server.denominator = denominator;
         Ok(())
     }
 
-    // Reserves the rate for the next client, with a step that must carry it and a cap on its credit.
+    // Reserves the rate for the next client, with a step that must carry it and a cap on its credit. The three
+    // go no further than this call, so no struct holds them.
     pub fn reserve(&mut self, rate: Rate, step: u32, cap: u32) -> Result<(), BookingRefusal>
         ensures answers { result ≡ reserve_says (booked_in self.old) rate step «cap» }
         ensures leaves { booked_in self.new ≡ reserved (booked_in self.old) rate step «cap» }
     {
         let terms = self.next_terms(rate, step, cap)?;
-        let place = self.clients.count() as usize;
-        if !self.clients.admit(terms) {
-            return Err(BookingRefusal::Over);
-        }
-        self.table.places[place] = Share {
+        let server = &mut self.server;
+        server.clients.admit(terms)?;
+        server.shares.push(Share {
             step,
             cap,
             credit: cap,
-        };
+        });
         Ok(())
     }
 
@@ -71,23 +66,20 @@ impl CreditBooking {
         if !rate_in_range(rate) {
             return Err(BookingRefusal::Rate);
         }
-        let whole = self.table.denominator;
-        if !share_in_range(whole, step, cap) {
+        if !self.server.share_in_range(step, cap) {
             return Err(BookingRefusal::Range);
         }
-        if rate.p as u32 * whole > step * rate.q as u32 {
+        if u32::from(rate.p) * self.server.denominator > step * u32::from(rate.q) {
             return Err(BookingRefusal::Share);
         }
-        let higher = &self.table.places[0..self.clients.count() as usize];
-        let rest = whole - steps(higher);
+        let rest = self.server.rest();
         if step > rest {
             return Err(BookingRefusal::Over);
         }
-        let theta = theta(rest, caps(higher));
-        Ok(Terms {
-            rate,
-            latency: latency_of(rate, theta) as u32,
-        })
+        let theta = self.server.caps().div_ceil(rest);
+        // At most 4,194,304, so it fits; `try_from` would answer an error that cannot come.
+        let latency = latency_of(rate, theta) as u32;
+        Ok(Terms { rate, latency })
     }
 
     // Opens the booking for service, and uses it up.
@@ -95,8 +87,32 @@ impl CreditBooking {
         ensures state { state_of result ≡ booked_in self }
         ensures unused { ∥ Unused (state_of result).clients ∥₁ }
     {
-        let CreditBooking { clients, table } = self;
-        CreditServer { clients, table }
+        self.server
+    }
+}
+
+impl CreditServer {
+    // Whether the step and the cap are within their ranges.
+    fn share_in_range(&self, step: u32, cap: u32) -> bool
+        ensures { result ≡ share_ok self.now.denominator step «cap» }
+    {
+        let denominator = self.denominator;
+        (1..=denominator).contains(&step) && (denominator..=64 * denominator).contains(&cap)
+    }
+
+    // What the clients' steps leave of the denominator.
+    fn rest(&self) -> u32
+        ensures { result ≡ self.now.denominator - steps self.now.shares.items }
+    {
+        let steps: u32 = self.shares.iter().map(|share| share.step).sum();
+        self.denominator - steps
+    }
+
+    // The clients' caps together.
+    fn caps(&self) -> u32
+        ensures { result ≡ caps_of self.now.shares.items }
+    {
+        self.shares.iter().map(|share| share.cap).sum()
     }
 }
 
@@ -104,46 +120,5 @@ impl CreditBooking {
 fn denominator_in_range(denominator: u32) -> bool
     ensures { result ≡ denominator_ok denominator }
 {
-    1 <= denominator && denominator <= 1024
-}
-
-// Whether the step and the cap are within their ranges.
-fn share_in_range(denominator: u32, step: u32, cap: u32) -> bool
-    requires { denominator < 2 ^ 16 }
-    ensures { result ≡ share_ok denominator step «cap» }
-{
-    1 <= step && step <= denominator && denominator <= cap && cap <= 64 * denominator
-}
-
-// The steps of these clients together.
-fn steps(shares: &[Share]) -> u32
-    requires { steps_of shares.now < 2 ^ 32 }
-    ensures { result ≡ steps_of shares.now }
-{
-    let mut sum = 0;
-    for share in shares {
-        sum += share.step;
-    }
-    sum
-}
-
-// The caps of these clients together.
-fn caps(shares: &[Share]) -> u32
-    requires { caps_of shares.now < 2 ^ 32 }
-    ensures { result ≡ caps_of shares.now }
-{
-    let mut sum = 0;
-    for share in shares {
-        sum += share.cap;
-    }
-    sum
-}
-
-// The slots by which a client may be late that has this rest of the denominator, and these caps above it.
-fn theta(rest: u32, caps: u32) -> u32
-    requires some { 1 ≤ rest }
-    requires small { caps + rest < 2 ^ 32 }
-    ensures { result ≡ theta_of rest caps }
-{
-    (caps + (rest - 1)) / rest
+    (1..=1024).contains(&denominator)
 }

@@ -1,15 +1,14 @@
-ghost use Rattle.credits.specs.States.{State as Credited, state_of, credit_machine};
 ghost use Rattle.std.proofs.Math.Logic.{∥∥₁_elim};
 ghost use Rattle.server.proofs.Props.{lawful_prop};
 ghost use Rattle.clients.specs.Meant.{meaning};
-ghost use Rattle.credits.specs.Shares.{shares_in};
+ghost use Rattle.credits.specs.States.{State as Credited, state_of, credit_machine};
 ghost use Rattle.credits.specs.Balancing.{balanced_lawful};
 
 use crate::credit_server::CreditServer;
 use server::block::Served;
-use server::rate::Rate;
 use server::refusal::Refusal;
 use server::server::Server;
+use server::view::View;
 
 impl Server for CreditServer {
     ghost State = { Credited };
@@ -18,17 +17,17 @@ impl Server for CreditServer {
 
     ghost means = { λ s. s.clients };
 
-    ghost sound = { λ x. Unit {0} };
-
     ghost named = { Unit {0} };
 
     ghost machine = { credit_machine };
 
-    ghost lawful = { λ x s.
+    ghost lawful = { λ x.
         let m = meaning x.clients in
         ∥∥₁_elim x.clients.kept (lawful_prop m) (λ k. ∥∥₁_elim x.balanced (lawful_prop m) (λ h.
-        balanced_lawful x.table.denominator m x.some k (shares_in m.count x.table) h)) };
+        balanced_lawful x.denominator m x.some k x.shares.items h)) };
 
+    // The calls but `slot` go to the table, each from here, where the invariants of this type are kept: a
+    // shared body would need a second trait with these contracts.
     fn clients(&self) -> u8 {
         self.clients.count()
     }
@@ -37,20 +36,8 @@ impl Server for CreditServer {
         self.clients.now()
     }
 
-    fn rate(&self, client: u8) -> Result<Rate, Refusal> {
-        Ok(self.clients.terms(client)?.rate)
-    }
-
-    fn latency(&self, client: u8) -> Result<u32, Refusal> {
-        Ok(self.clients.terms(client)?.latency)
-    }
-
-    fn clock(&self, client: u8) -> Result<u64, Refusal> {
-        self.clients.clock(client)
-    }
-
-    fn waiting(&self, client: u8) -> Result<u8, Refusal> {
-        self.clients.waiting(client)
+    fn view(&self, client: u8) -> Result<View, Refusal> {
+        self.clients.view(client)
     }
 
     fn submit(&mut self, client: u8, label: u32, length: u8) -> Result<u64, Refusal> {
@@ -58,12 +45,12 @@ impl Server for CreditServer {
     }
 
     // The highest eligible client is served, and each client earns its step.
+    #[tactic(auto, using(crate::specs::Balancing::served_pays))]
     fn slot(&mut self) -> Result<Served, Refusal> {
-        if self.clients.now() == 4294967295 {
-            return Err(Refusal::Ended);
-        }
-        let who = self.table.served(&self.clients);
-        self.table.earn(&self.clients, who);
-        self.clients.slot(who)
+        let who = self.served();
+        let shares = self.earned(who);
+        let served = self.clients.slot(who)?;
+        self.shares = shares;
+        Ok(served)
     }
 }

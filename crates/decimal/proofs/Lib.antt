@@ -1,5 +1,2 @@
-mod EachDigit
 mod Reading
-mod LastDigit
-mod Extending
 pub mod TwoWays

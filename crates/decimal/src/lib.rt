@@ -3,63 +3,53 @@
 // Writing gives the same text again, into a small value of at most ten bytes; nothing is asked of a caller.
 #![tactic(auto)]
 
-ghost use Rattle.std.specs.Prelude.{◌≡◌, ◌≤◌, ◌∷◌, length};
-ghost use Rattle.decimal.specs.Numbers.{digits_on, kept, number_of};
+ghost use Rattle.std.specs.Prelude.{◌≡◌, ◌≤◌, ◌&&◌, decimal, IfSome};
+ghost use Rattle.decimal.specs.Numbers.{number_of, shaped};
 ghost use Rattle.std.specs.Char.{is_ascii_digit};
+ghost use Rattle.std.specs.List.{list_all};
+ghost use Rattle.std.specs.Str.{all_ascii_digits};
 
-mod text;
-mod writing;
+use arrayvec::ArrayString;
+use itoa::Buffer;
+use std::str;
 
-pub use text::Text;
-pub use writing::Full;
+/// A text of at most ten bytes.
+pub type Text = ArrayString<10>;
 
-fn is_digit(byte: u8) -> bool
-    ensures { result ≡ is_ascii_digit byte }
+/// Whether a text is nothing but digits.
+fn is_digits(text: &[u8]) -> bool
+    ensures { result ≡ list_all is_ascii_digit text.now }
 {
-    byte >= b'0' && byte <= b'9'
+    text.iter().all(u8::is_ascii_digit)
 }
 
-/// The number of a first digit with the rest.
-fn digits(first: u8, rest: &[u8]) -> Option<u64>
-    requires { length rest.now ≤ 9 }
-    ensures { result ≡ digits_on 0 (first ∷ rest.now) }
+/// Whether a text is 1 to 10 digits with no leading zero, where `parse` alone would take a sign and zeros in front.
+fn is_numeral(text: &[u8]) -> bool
+    ensures { result ≡ (shaped text.now && all_ascii_digits text.now) }
 {
-    if !is_digit(first) {
-        return None;
-    }
-    let mut value = (first - b'0') as u64;
-    for digit in rest {
-        if !is_digit(*digit) {
-            return None;
-        }
-        value = 10 * value + (*digit - b'0') as u64;
-    }
-    Some(value)
-}
-
-/// A number that is at most `most`.
-fn keep(value: Option<u64>, most: u32) -> Option<u32>
-    ensures { result ≡ kept most value }
-{
-    match value {
-        Some(value) if value <= most as u64 => Some(value as u32),
-        _ => None,
+    match text {
+        [] | [b'0', _, ..] => false,
+        _ => text.len() <= 10 && is_digits(text),
     }
 }
 
 /// The number of a text of 1 to 10 digits with no leading zero, at most `most`.
 pub fn read(text: &[u8], most: u32) -> Option<u32>
-    ensures { result ≡ number_of most text.now }
+    ensures value { result ≡ number_of most text.now }
+    ensures bound { IfSome result (λ number. number ≤ most) }
 {
-    match text {
-        [] => None,
-        [b'0'] => Some(0),
-        [b'0', _, ..] => None,
-        [first, rest @ ..] => {
-            if rest.len() > 9 {
-                return None;
-            }
-            keep(digits(*first, rest), most)
-        }
+    if !is_numeral(text) {
+        return None;
     }
+    let number = str::from_utf8(text).ok()?.parse().ok()?;
+    (number <= most).then_some(number)
+}
+
+/// The digits of a number.
+pub fn write(number: u32) -> Text
+    ensures { result.bytes ≡ decimal number }
+{
+    let mut text = Text::new();
+    text.push_str(Buffer::new().format(number));
+    text
 }

@@ -14,6 +14,16 @@ abbrev pub cause_number : FieldCause → ℕ
 cause_number Form = 16
 cause_number Label = 17
 
+-- the number of a line's fault
+abbrev pub fault_number : LineFault → ℕ
+fault_number End = 20
+fault_number Letter = 14
+fault_number Fields = 15
+fault_number (Field f) = cause_number f.cause
+fault_number Slot = 18
+fault_number Crowd = 19
+fault_number (Booking f) = number_of f.refusal
+
 -- the fault of a line, told
 abbrev pub notice_at : ℕ → LineFault → Notice
 notice_at n End = record { line = n; field = 0; hop = 0; number = 20 }

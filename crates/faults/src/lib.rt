@@ -3,37 +3,38 @@
 // A field's and a booking's fault turn into a line's by `?`.
 #![tactic(auto)]
 
-ghost use Rattle.faults.specs.Faults.{cause_number, notice_of};
+ghost use Rattle.faults.specs.Faults.{cause_number, fault_number, notice_at, notice_of};
 ghost use Rattle.faults.specs.declared.LineFault.TheVariants.{Booking, Field};
 ghost use Rattle.std.specs.Prelude.{◌≡◌};
 
 use clients::booking::BookingRefusal;
 
-/// What a field can be refused for.
-#[derive(Clone, Copy)]
+/// What a field can be refused for, with the number by which the cause is known.
+#[derive(Clone, Copy, PartialEq, Eq, Debug)]
 pub enum FieldCause {
     /// Not of its form or range.
-    Form,
+    Form = 16,
     /// Not a label of the trace's kind.
-    Label,
+    Label = 17,
 }
 
 /// A field's fault, with its place in the line.
-#[derive(Clone, Copy)]
+#[derive(Clone, Copy, PartialEq, Eq, Debug)]
 pub struct FieldFault {
     pub field: u8,
     pub cause: FieldCause,
 }
 
-/// A booking's fault, with its hop.
-#[derive(Clone, Copy)]
+/// A booking's fault, with its hop. Hops are counted and not named, since a trace is read for whatever
+/// bookings there are.
+#[derive(Clone, Copy, PartialEq, Eq, Debug)]
 pub struct BookingFault {
     pub hop: u8,
     pub refusal: BookingRefusal,
 }
 
 /// What a line can be refused for.
-#[derive(Clone, Copy)]
+#[derive(Clone, Copy, PartialEq, Eq, Debug)]
 pub enum LineFault {
     /// The trace ends inside the line, or before it.
     End,
@@ -52,7 +53,7 @@ pub enum LineFault {
 }
 
 /// What a whole trace can be refused for.
-#[derive(Clone, Copy)]
+#[derive(Clone, Copy, PartialEq, Eq, Debug)]
 pub enum RunFault {
     /// The trace is too long, or there is too little room for the answer.
     Size,
@@ -61,7 +62,7 @@ pub enum RunFault {
 }
 
 /// The four numbers that tell a fault.
-#[derive(Clone, Copy, PartialEq, Eq, Debug)]
+#[derive(Clone, Copy, Default, PartialEq, Eq, Debug)]
 pub struct Notice {
     pub line: u32,
     pub field: u8,
@@ -86,52 +87,64 @@ impl From<BookingFault> for LineFault {
 }
 
 impl FieldCause {
-    /// The cause's number.
+    /// The cause's number. Written for each enum of causes, since a type parameter cannot be cast.
     pub fn number(self) -> u8
         ensures { result ≡ cause_number self }
     {
-        match self {
-            FieldCause::Form => 16,
-            FieldCause::Label => 17,
-        }
+        self as u8
     }
 }
 
-impl RunFault {
-    /// Line, field, hop and number of the fault, with 0 for what does not apply.
-    pub fn notice(self) -> Notice
-        ensures { result ≡ notice_of self }
+impl LineFault {
+    /// The fault's number.
+    fn number(self) -> u8
+        ensures { result ≡ fault_number self }
     {
         match self {
-            RunFault::Size => told(0, 0, 0, 13),
-            RunFault::At(line, LineFault::End) => told(line, 0, 0, 20),
-            RunFault::At(line, LineFault::Letter) => told(line, 0, 0, 14),
-            RunFault::At(line, LineFault::Fields) => told(line, 0, 0, 15),
-            RunFault::At(line, LineFault::Field(fault)) => told(
-                line,
-                fault.field,
-                0,
-                fault.cause.number(),
-            ),
-            RunFault::At(line, LineFault::Slot) => told(line, 0, 0, 18),
-            RunFault::At(line, LineFault::Crowd) => told(line, 0, 0, 19),
-            RunFault::At(line, LineFault::Booking(fault)) => told(
-                line,
-                0,
-                fault.hop,
-                fault.refusal.number(),
-            ),
+            LineFault::End => 20,
+            LineFault::Letter => 14,
+            LineFault::Fields => 15,
+            LineFault::Field(fault) => fault.cause.number(),
+            LineFault::Slot => 18,
+            LineFault::Crowd => 19,
+            LineFault::Booking(fault) => fault.refusal.number(),
+        }
+    }
+
+    /// The fault of a line, told.
+    fn notice(self, line: u32) -> Notice
+        ensures { result ≡ notice_at line self }
+    {
+        let number = self.number();
+        let whole_line = Notice {
+            line,
+            number,
+            ..Notice::default()
+        };
+        match self {
+            LineFault::Field(fault) => Notice {
+                field: fault.field,
+                ..whole_line
+            },
+            LineFault::Booking(fault) => Notice {
+                hop: fault.hop,
+                ..whole_line
+            },
+            _ => whole_line,
         }
     }
 }
 
-fn told(line: u32, field: u8, hop: u8, number: u8) -> Notice
-    ensures { result ≡ record { line = line; field = field; hop = hop; number = number } }
-{
-    Notice {
-        line,
-        field,
-        hop,
-        number,
+impl From<RunFault> for Notice {
+    ghost from_gives = { λ fault notice. notice ≡ notice_of fault };
+
+    fn from(fault: RunFault) -> Notice {
+        match fault {
+            RunFault::Size => Notice {
+                number: 13,
+                ..Notice::default()
+            },
+            RunFault::At(line, fault) => fault.notice(line),
+        }
     }
 }

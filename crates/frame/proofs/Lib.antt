@@ -1,1 +1,1 @@
-pub mod Bookings
+pub mod OnTime

@@ -3,4 +3,3 @@ pub mod Paced
 pub mod States
 pub mod Pacing
 pub mod Windows
-pub mod FramesLemmas

@@ -1,8 +1,7 @@
 -- The calls keep a frame's clients on time, and so within the laws.
-use Rattle.std.specs.Prelude.{◌≡◌, ℕ, suc, ◌+◌, ◌*◌, ◌<◌, ◌≤◌, Bool, true, false, cond, ◌&&◌, ltb, ◌≢◌, List, length, Some, None, Option, nat_lt, refl}
-use Rattle.std.proofs.Common.{sym, ap, subst, ◌∙◌, ⊎_elim, arith, mul-le-mul, mul-add, ltb-true, ltb-false, eq-eqb, ne_eqb, lt-ltb}
-use Rattle.std.proofs.Math.Logic.{∥∥₁_map₂}
-use Rattle.std.proofs.lemmas.Bool.{cases_eq, and_parts}
+use Rattle.std.specs.Prelude.{◌≡◌, ℕ, suc, ◌+◌, ◌*◌, ◌<◌, ◌≤◌, Bool, true, false, ◌&&◌, ltb, ◌≢◌, List, length, Some, None, Option, ◌==◌, nat_lt, refl}
+use Rattle.std.proofs.Common.{sym, ap, subst, ◌∙◌, ⊎_elim, arith, mul-add, ltb-true, ltb-false, eq-eqb, ne_eqb, lt-ltb}
+use Rattle.std.proofs.lemmas.Bool.{cases_eq, and_parts, cond-true, cond-false, cond_both}
 use Rattle.server.specs.declared.rate.Rate.{Rate}
 use Rattle.server.specs.declared.rate.Terms.{Terms}
 use Rattle.server.specs.Meaning.{Client, Meaning}
@@ -10,12 +9,13 @@ use Rattle.server.specs.Calls.{at, granted, submitted, entered, serve, ticked, s
 use Rattle.server.specs.Laws.{ClientLaws, Lawful}
 use Rattle.server.proofs.Meanings.{at_elim}
 use Rattle.clients.specs.Held.{Held, Kept, reach, latency_for}
-use Rattle.clients.specs.Serving.{new_client, rate_ok, terms_ok, admitted, waits, served_client, goes_on, slot_leaves}
+use Rattle.clients.specs.View.{new_client}
+use Rattle.clients.specs.Serving.{rate_ok, admitted, waits, served_client, goes_on, slot_leaves}
 use Rattle.clients.proofs.Clients.{reach_entered, reach_ticked, reach_gone, reach_empty, laws_on_time}
-use Rattle.clients.proofs.Kept.{rate_ranged, ranged_terms, admitted_elim, admitted_now}
+use Rattle.clients.proofs.Kept.{rate_ranged, admitted_elim, admitted_now}
 use Rattle.frame.specs.Frames.{owner_at, mine, owned, window, theta}
 use Rattle.frame.specs.Paced.{Share, Paced}
-use Rattle.frame.specs.Windows.{window_holds}
+use Rattle.frame.specs.Windows.{window_first, window_holds}
 
 -- ## One client
 
@@ -40,7 +40,7 @@ module _ (os : List (Option ℕ)) (some : 1 ≤ length os) (t k : ℕ) where
       late = h.late;
       ahead = λ w.
           let a : x.terms.rate.p * (t + suc w) ≡ x.terms.rate.p * (t + 1 + w) = ap (λ (j : ℕ). x.terms.rate.p * j) (let z : t + suc w ≡ t + 1 + w = omega arith in z) in
-          let b : x.terms.rate.q * window k os t (suc w) ≡ x.terms.rate.q * window k os (t + 1) w = ap (λ (j : ℕ). x.terms.rate.q * j) (let z : mine k (owner_at os t) + window k os (t + 1) w ≡ window k os (t + 1) w = omega (arith, e) in z) in
+          let b : x.terms.rate.q * window k os t (suc w) ≡ x.terms.rate.q * window k os (t + 1) w = ap (λ (j : ℕ). x.terms.rate.q * j) (let z : window k os t (suc w) ≡ window k os (t + 1) w = omega (arith, e, window_first k os t w) in z) in
           omega (arith, h.ahead (suc w), a, b, reach_ticked t x);
     }
 
@@ -51,7 +51,7 @@ module _ (os : List (Option ℕ)) (some : 1 ≤ length os) (t k : ℕ) where
       late = h.late;
       ahead = λ w.
           let a : x.terms.rate.p * (t + suc w) ≡ x.terms.rate.p * (t + 1 + w) = ap (λ (j : ℕ). x.terms.rate.p * j) (let z : t + suc w ≡ t + 1 + w = omega arith in z) in
-          let b : x.terms.rate.q * window k os t (suc w) ≡ x.terms.rate.q * (1 + window k os (t + 1) w) = ap (λ (j : ℕ). x.terms.rate.q * j) (let z : mine k (owner_at os t) + window k os (t + 1) w ≡ 1 + window k os (t + 1) w = omega (arith, e) in z) in
+          let b : x.terms.rate.q * window k os t (suc w) ≡ x.terms.rate.q * (1 + window k os (t + 1) w) = ap (λ (j : ℕ). x.terms.rate.q * j) (let z : window k os t (suc w) ≡ 1 + window k os (t + 1) w = omega (arith, e, window_first k os t w) in z) in
           omega (arith, h.ahead (suc w), a, b, reach_gone t x waiting held, mul-add x.terms.rate.q 1 (window k os (t + 1) w));
     }
 
@@ -70,10 +70,10 @@ share_idle os some t k x held h none = record {
 }
 
 mine_other : (k c : ℕ) → k ≢ c → mine k (Some c) ≡ 0
-mine_other k c ne = ap (λ (b : Bool). cond b 1 0) (ne_eqb c k (λ e. ne (sym e)))
+mine_other k c ne = cond-false (c == k) 1 0 (ne_eqb c k (λ e. ne (sym e)))
 
 mine_own : (k c : ℕ) → k ≡ c → mine k (Some c) ≡ 1
-mine_own k c e = ap (λ (b : Bool). cond b 1 0) (eq-eqb c k (sym e))
+mine_own k c e = cond-true (c == k) 1 0 (eq-eqb c k (sym e))
 
 -- ## All clients
 
@@ -82,11 +82,10 @@ module _ (m : Meaning) (os : List (Option ℕ)) (some : 1 ≤ length os) where
   paced_lawful kept h = record { eight = kept.eight; counted = kept.counted; each = λ k l. share_laws os some m.now k (m.client k) (kept.each k l) (h k l) }
 
   pub paced_submitted : (c label len : ℕ) → Paced m os → Paced (submitted m c label len) os
-  paced_submitted c label len h = by (granted m c len)
-    where
-      by : (d : Bool) → Paced (cond {A = Meaning} d (record { count = m.count; now = m.now; client = at c (entered m.now label len) m.client }) m) os
-      by true = λ k l. at_elim (Share os m.now k) c k (entered m.now label len) m.client (λ _. share_entered os some m.now k label len (m.client k) (h k l)) (λ _. h k l)
-      by false = h
+  paced_submitted c label len h =
+      cond_both (granted m c len) (record { count = m.count; now = m.now; client = at c (entered m.now label len) m.client }) m (λ n. Paced n os)
+      (λ _ k l. at_elim (Share os m.now k) c k (entered m.now label len) m.client (λ _. share_entered os some m.now k label len (m.client k) (h k l)) (λ _. h k l))
+      (λ _. h)
 
   module _ (kept : Kept m) (h : Paced m os) where
     on_none : owner_at os m.now ≡ None → Paced (ticked m) os
@@ -113,43 +112,19 @@ module _ (m : Meaning) (os : List (Option ℕ)) (some : 1 ≤ length os) where
 
     on-owner : (o : Option ℕ) → owner_at os m.now ≡ o → Paced (goes_on m (served_client m o)) os
     on-owner None e = on_none e
-    on-owner (Some c) e = by (waits m c) refl
-      where
-        by : (d : Bool) → waits m c ≡ d → Paced (goes_on m (cond {A = Option ℕ} d (Some c) None)) os
-        by true w = on-served c e w
-        by false w = on-idle c e w
+    on-owner (Some c) e = cond_both (waits m c) (Some c) None (λ o. Paced (goes_on m o) os) (on-served c e) (on-idle c e)
 
     pub paced_slot : Paced (slot_leaves m (owner_at os m.now)) os
-    paced_slot = by (nat_lt m.now 4294967295)
-      where
-        by : (d : Bool) → Paced (cond {A = Meaning} d (goes_on m (served_client m (owner_at os m.now))) m) os
-        by true = on-owner (owner_at os m.now) refl
-        by false = h
+    paced_slot =
+        let o = owner_at os m.now in
+        cond_both (nat_lt m.now 4294967295) (goes_on m (served_client m o)) m (λ n. Paced n os) (λ _. on-owner o refl) (λ _. h)
 
--- ## A reservation
+  -- ## A reservation
 
-latency_ranged : (p q θ : ℕ) → 1 ≤ p → p ≤ q → q ≤ 1024 → θ ≤ 256 → (p ≤ latency_for p q θ) × (latency_for p q θ ≤ 4194304)
-latency_ranged p q θ slow rate small few =
-    (omega (arith, rate), omega (arith, small, mul-le-mul {n₂ = 1024} {m₂ = 256} (let l : p ≤ 1024 = omega arith in l) few))
-
-module _ (m : Meaning) (os : List (Option ℕ)) (some : 1 ≤ length os) (most : length os ≤ 256) (x : Rate) (ok : rate_ok x ≡ true) where
-  abbrev terms : Terms
-  terms = record { rate = x; latency = latency_for x.p x.q (theta m.count os) }
-
-  pub latency_fits : latency_for x.p x.q (theta m.count os) ≤ 4194304
-  latency_fits = let r = rate_ranged x ok in (latency_ranged x.p x.q (theta m.count os) r.0 r.1 r.2 (omega arith)).1
-
-  pub terms_fit : terms_ok terms ≡ true
-  terms_fit = let r = rate_ranged x ok in let l = latency_ranged x.p x.q (theta m.count os) r.0 r.1 r.2 (omega arith) in ranged_terms terms ok l.0 l.1
-
-  pub paced_admitted : x.p * length os ≤ owned m.count os * x.q → Paced m os → Paced (admitted m terms) os
-  paced_admitted enough h =
-      let e = admitted_now m terms in
-      λ k l. subst (λ (t : ℕ). Share os t k ((admitted m terms).client k)) (sym e)
+  -- a client whose slots carry its rate comes in on time
+  pub paced_admitted : (x : Rate) → rate_ok x ≡ true → x.p * length os ≤ owned m.count os * x.q → Paced m os
+      → Paced (admitted m (record { rate = x; latency = latency_for x.p x.q (theta m.count os) })) os
+  paced_admitted x ok enough h =
+      let terms : Terms = record { rate = x; latency = latency_for x.p x.q (theta m.count os) } in
+      λ k l. subst (λ (t : ℕ). Share os t k ((admitted m terms).client k)) (sym (admitted_now m terms))
       (admitted_elim (Share os m.now) m terms (share_new os some m.now m.count terms (rate_ranged x ok).1 enough refl) h k l)
-
--- ## Behind a truncation
-
--- a slot, where what is kept is known behind a truncation
-pub paced_after : (m m' : Meaning) (os : List (Option ℕ)) → 1 ≤ length os → ∥ Kept m ∥₁ → ∥ Paced m os ∥₁ → m' ≡ slot_leaves m (owner_at os m.now) → ∥ Paced m' os ∥₁
-paced_after m m' os some kept paced e = ∥∥₁_map₂ kept paced (λ k h. subst (λ (n : Meaning). Paced n os) (sym e) (paced_slot m os some k h))

@@ -1,6 +1,7 @@
 -- The frame's booking and server as functions of their state. Assumes nothing.
 use Rattle.std.specs.Prelude.{ℕ, ◌*◌, Bool, cond, ◌&&◌, List, [], ◌∷◌, length, None, Ok, Err, Option, Result, nat_le, nat_lt}
 use Rattle.server.specs.declared.rate.Rate.{Rate}
+use Rattle.server.specs.declared.rate.Terms.{Terms}
 use Rattle.server.specs.Meaning.{Meaning}
 use Rattle.server.specs.Calls.{submitted}
 use Rattle.server.specs.Machine.{Machine}
@@ -18,14 +19,17 @@ pub record State : Type 0 where
   pub clients : Meaning
   pub owners : List (Option ℕ)
 
-abbrev pub booked_in : FrameBooking → State
-booked_in b = record { clients = meaning b.clients; owners = owners_in b.frame }
-
+-- what a server is, seen from outside
 abbrev pub state_of : FrameServer → State
 state_of x = record { clients = meaning x.clients; owners = owners_in x.frame }
 
+-- a booking is its server, which no call has moved
+abbrev pub booked_in : FrameBooking → State
+booked_in b = state_of b.server
+
 -- ## Booking
 
+-- what setting the frame or reserving a client answers
 abbrev pub Answer : Type 0
 Answer = Result (Unit {0}) BookingRefusal
 
@@ -37,6 +41,7 @@ fresh = record { clients = no_clients; owners = None ∷ [] }
 abbrev pub frame_says : State → List (Option ℕ) → Answer
 frame_says s os = cond (nat_lt 0 s.clients.count) (Err Reserved) (cond (frame_ok os) (Ok tt) (Err Range))
 
+-- the owners set, or nothing changed
 abbrev pub frame_set : State → List (Option ℕ) → State
 frame_set s os = cond (nat_lt 0 s.clients.count) s (cond (frame_ok os) (record { clients = s.clients; owners = os }) s)
 
@@ -44,20 +49,23 @@ frame_set s os = cond (nat_lt 0 s.clients.count) s (cond (frame_ok os) (record {
 abbrev pub carries : State → Rate → Bool
 carries s x = nat_le (x.p * length s.owners) (owned s.clients.count s.owners * x.q)
 
+-- the next client's terms: the latency is p·θ + q·16
+abbrev pub next_terms : State → Rate → Terms
+next_terms s x = record { rate = x; latency = latency_for x.p x.q (theta s.clients.count s.owners) }
+
+-- those terms, where the rate is in range and carried
+abbrev pub terms_say : State → Rate → Result Terms BookingRefusal
+terms_say s x = cond (rate_ok x) (cond (carries s x) (Ok (next_terms s x)) (Err Share)) (Err BadRate)
+
 -- reserving the next client: the first cause that holds
 abbrev pub reserve_says : State → Rate → Answer
 reserve_says s x =
     cond (rate_ok x) (cond (carries s x) (cond (nat_lt s.clients.count 8) (Ok tt) (Err Over)) (Err Share)) (Err BadRate)
 
--- the client reserved, with the latency p·θ + q·16; or nothing changed
+-- the client reserved with those terms, or nothing changed
 abbrev pub reserved : State → Rate → State
 reserved s x =
-    cond (rate_ok x && carries s x)
-    (record {
-      clients = admitted s.clients (record { rate = x; latency = latency_for x.p x.q (theta s.clients.count s.owners) });
-      owners = s.owners;
-    })
-    s
+    cond (rate_ok x && carries s x) (record { clients = admitted s.clients (next_terms s x); owners = s.owners }) s
 
 -- ## Service
 

@@ -1,49 +1,30 @@
 -- Every run of slots holds the client's share of them, but for θ slots.
-use Rattle.std.specs.Prelude.{◌≡◌, ℕ, zero, suc, ◌+◌, ◌-◌, ◌*◌, ◌%◌, ◌<◌, ◌≤◌, Bool, true, false, cond, List, [], ◌∷◌, length, get_or, drop, Some, None, Option, ◌==◌, slice_index_or}
+use Rattle.std.specs.Prelude.{◌≡◌, ℕ, zero, suc, ◌+◌, ◌-◌, ◌*◌, ◌<◌, ◌≤◌, List, length, get_or, None, Option, refl}
 use Rattle.std.proofs.Common.{sym, ap, ◌∙◌, ⊎_elim, arith, mul-le-mul_left, mul-le-mul_right, mul-add, mod-eq_of_lt}
 use Rattle.std.proofs.Math.Nat.{add-mod_right}
-use Rattle.std.proofs.lemmas.List.{at_drop_more, at_drop_all}
+use Rattle.std.proofs.lemmas.List.FromFn.{length-map-range_with_len, fill_by_all}
+use Rattle.std.proofs.lemmas.List.Sums.{sum_by-cons, count_by-le-length}
 use Rattle.std.proofs.lemmas.Bool.{cases_lt}
-use Rattle.frame.specs.Frames.{owner_at, mine, owned, window, theta}
-
-pub mine_small : (k : ℕ) (o : Option ℕ) → mine k o ≤ 1
-mine_small k None = omega arith
-mine_small k (Some c) = by (c == k)
-  where
-    by : (t : Bool) → cond t 1 0 ≤ 1
-    by true = omega arith
-    by false = omega arith
-
-pub owned_small : (k : ℕ) (os : List (Option ℕ)) → owned k os ≤ length os
-owned_small k [] = omega arith
-owned_small k (o ∷ os) = omega (arith, mine_small k o, owned_small k os)
+use Rattle.frame.specs.Frames.{owner_at, owns, mine, owned, run, window, theta}
 
 module _ (k : ℕ) (os : List (Option ℕ)) where
+  -- the first slot, and those behind it
+  pub window_first : (t w : ℕ) → window k os t (suc w) ≡ mine k (owner_at os t) + window k os (t + 1) w
+  window_first t w = sum_by-cons (mine k) (owner_at os t) (run os (t + 1) w)
+
   window-small : (t w : ℕ) → window k os t w ≤ w
-  window-small t zero = omega arith
-  window-small t (suc w) = omega (arith, mine_small k (owner_at os t), window-small (t + 1) w)
+  window-small t w = omega (arith, count_by-le-length (owns k) (run os t w), length-map-range_with_len (owner_at os) t w)
 
   -- two runs, one behind the other
   window-add : (t a b : ℕ) → window k os t (a + b) ≡ window k os t a + window k os (t + a) b
   window-add t zero b =
       let z : t + 0 ≡ t = omega arith in
       let y : 0 + b ≡ b = omega arith in
-      ap (window k os t) y ∙ ap (λ s. window k os s b) (sym z) ∙ (let g : window k os (t + 0) b ≡ 0 + window k os (t + 0) b = omega arith in g)
+      omega (arith, ap (window k os t) y, ap (λ s. window k os s b) z)
   window-add t (suc a) b =
       let s : suc a + b ≡ suc (a + b) = omega arith in
       let u : t + 1 + a ≡ t + suc a = omega arith in
-      ap (window k os t) s
-      ∙ (let g : mine k (owner_at os t) + window k os (t + 1) (a + b) ≡ mine k (owner_at os t) + window k os (t + 1) a + window k os (t + suc a) b =
-      omega (arith, window-add (t + 1) a b, ap (λ j. window k os j b) u) in g)
-
-  -- from place i of the first round to its end
-  round-rest : (i w : ℕ) → i + w ≡ length os → window k os i w ≡ owned k (drop i os)
-  round-rest i zero e = sym (at_drop_all (owned k) os i (omega (arith, e)))
-  round-rest i (suc w) e =
-      let l : i < length os = omega (arith, e) in
-      let m : i % length os ≡ i = mod-eq_of_lt l in
-      let here : mine k (owner_at os i) ≡ mine k (slice_index_or os i None) = ap (λ j. mine k (slice_index_or os j None)) m in
-      omega (arith, here, round-rest (i + 1) w (omega (arith, e)), at_drop_more (owned k) os i None l)
+      omega (arith, ap (window k os t) s, window_first t (a + b), window_first t a, window-add (t + 1) a b, ap (λ j. window k os j b) u)
 
   -- one slot on, the run of a whole round loses one slot and gains its like
   round-shift : (t : ℕ) → window k os (t + 1) (length os) ≡ window k os t (length os)
@@ -56,7 +37,7 @@ module _ (k : ℕ) (os : List (Option ℕ)) where
       omega (arith, a, b, c, ap (mine k) same)
 
   pub round_owned : (t : ℕ) → window k os t (length os) ≡ owned k os
-  round_owned zero = round-rest 0 (length os) (omega arith)
+  round_owned zero = ap (owned k) (sym (fill_by_all (owner_at os) os (length os) None refl (λ i l. ap (λ j. get_or os j None) (sym (mod-eq_of_lt l)))))
   round_owned (suc t) = ap (λ j. window k os j (length os)) (let z : suc t ≡ t + 1 = omega arith in z) ∙ round-shift t ∙ round_owned t
 
   -- within one round all but θ slots are the client's
@@ -66,7 +47,7 @@ module _ (k : ℕ) (os : List (Option ℕ)) where
       let r : w + (n - w) ≡ n = omega arith in
       let a = window-add t w (n - w) in
       let b : window k os t (w + (n - w)) ≡ owned k os = ap (window k os t) r ∙ round_owned t in
-      omega (arith, a, b, window-small (t + w) (n - w), owned_small k os)
+      omega (arith, a, b, window-small (t + w) (n - w), count_by-le-length (owns k) os)
 
   module _ (p q : ℕ) (rate : p ≤ q) (enough : p * length os ≤ owned k os * q) where
     short : (t w : ℕ) → w ≤ length os → p * w ≤ p * theta k os + q * window k os t w

@@ -1,4 +1,3 @@
-ghost use Rattle.std.specs.Prelude.{◌≡◌, ◌≤◌, length as size};
 ghost use Rattle.clients.specs.Meant.{meaning};
 ghost use Rattle.frame.specs.Frames.{owners_in};
 ghost use Rattle.frame.specs.Paced.{Paced};
@@ -6,13 +5,10 @@ ghost use Rattle.frame.specs.Paced.{Paced};
 use crate::owners::Frame;
 use clients::table::Clients;
 
-// A frame in service.
+// A frame in service. `paced` is truncated since `kept` of the clients is, and both are read together.
 #[derive(Drop)]
 pub struct FrameServer {
     pub(crate) clients: Clients,
     pub(crate) frame: Frame,
-    ghost full: { size frame.owners ≡ 256 },
-    ghost some: { 1 ≤ frame.length },
-    ghost most: { frame.length ≤ 256 },
     ghost paced: { ∥ Paced (meaning clients) (owners_in frame) ∥₁ },
 }

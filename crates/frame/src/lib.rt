@@ -5,7 +5,5 @@
 
 pub mod booking;
 pub mod frame_server;
-mod looking;
 pub mod owners;
-mod reserving;
 pub mod serving;

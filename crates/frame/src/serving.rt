@@ -1,17 +1,15 @@
-ghost use Rattle.std.specs.Prelude.{◌≡◌};
 ghost use Rattle.frame.specs.States.{State as Framed, state_of, frame_machine};
 ghost use Rattle.std.proofs.Math.Logic.{∥∥₁_elim};
 ghost use Rattle.server.proofs.Props.{lawful_prop};
 ghost use Rattle.clients.specs.Meant.{meaning};
 ghost use Rattle.frame.specs.Frames.{owners_in};
 ghost use Rattle.frame.specs.Pacing.{paced_lawful};
-ghost use Rattle.frame.specs.FramesLemmas.{some_owners};
 
 use crate::frame_server::FrameServer;
 use server::block::Served;
-use server::rate::Rate;
 use server::refusal::Refusal;
 use server::server::Server;
+use server::view::View;
 
 impl Server for FrameServer {
     ghost State = { Framed };
@@ -20,16 +18,16 @@ impl Server for FrameServer {
 
     ghost means = { λ s. s.clients };
 
-    ghost sound = { λ x. Unit {0} };
-
     ghost named = { Unit {0} };
 
     ghost machine = { frame_machine };
 
-    ghost lawful = { λ x s.
+    ghost lawful = { λ x.
         let m = meaning x.clients in
-        ∥∥₁_elim x.clients.kept (lawful_prop m) (λ k. ∥∥₁_elim x.paced (lawful_prop m) (λ h. paced_lawful m (owners_in x.frame) (some_owners x.frame x.full x.some x.most) k h)) };
+        ∥∥₁_elim x.clients.kept (lawful_prop m) (λ k. ∥∥₁_elim x.paced (lawful_prop m) (λ h. paced_lawful m (owners_in x.frame) x.frame.some k h)) };
 
+    // The calls but `slot` go to the table, each from here, where the invariants of this type are kept: a
+    // shared body would need a second trait with these contracts.
     fn clients(&self) -> u8 {
         self.clients.count()
     }
@@ -38,20 +36,8 @@ impl Server for FrameServer {
         self.clients.now()
     }
 
-    fn rate(&self, client: u8) -> Result<Rate, Refusal> {
-        Ok(self.clients.terms(client)?.rate)
-    }
-
-    fn latency(&self, client: u8) -> Result<u32, Refusal> {
-        Ok(self.clients.terms(client)?.latency)
-    }
-
-    fn clock(&self, client: u8) -> Result<u64, Refusal> {
-        self.clients.clock(client)
-    }
-
-    fn waiting(&self, client: u8) -> Result<u8, Refusal> {
-        self.clients.waiting(client)
+    fn view(&self, client: u8) -> Result<View, Refusal> {
+        self.clients.view(client)
     }
 
     fn submit(&mut self, client: u8, label: u32, length: u8) -> Result<u64, Refusal> {
@@ -59,6 +45,7 @@ impl Server for FrameServer {
     }
 
     // The slot's owner is served.
+    #[tactic(auto, using(crate::proofs::OnTime::slot_paced))]
     fn slot(&mut self) -> Result<Served, Refusal> {
         let owner = self.frame.owner(self.clients.now());
         self.clients.slot(owner)

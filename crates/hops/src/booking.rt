@@ -13,19 +13,16 @@ use trace::Bookings;
 fn at(hop: u8, answer: Result<(), BookingRefusal>) -> Result<(), BookingFault>
     ensures { (s : Booked) → led result s ≡ at_hop hop answer s }
 {
-    match answer {
-        Ok(()) => Ok(()),
-        Err(refusal) => Err(BookingFault { hop, refusal }),
-    }
+    answer.map_err(|refusal| BookingFault { hop, refusal })
 }
 
-// The rate of a client's line.
+// The rate of a client's line. Both types are other crates', so that no `From` may stand here.
 fn rate_of(client: &Client) -> Rate
     ensures { result ≡ line_rate client.now }
 {
     Rate {
-        p: client.units.min(65535) as u16,
-        q: client.slots.min(65535) as u16,
+        p: u16::try_from(client.units).unwrap_or(u16::MAX),
+        q: u16::try_from(client.slots).unwrap_or(u16::MAX),
     }
 }
 

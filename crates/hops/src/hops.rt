@@ -1,6 +1,10 @@
 use credits::booking::CreditBooking;
+use credits::credit_server::CreditServer;
 use frame::booking::FrameBooking;
+use frame::frame_server::FrameServer;
+use join::chain::Chain;
 use ring::booking::RingBooking;
+use ring::ring_server::RingServer;
 
 /// What is booked at each hop.
 #[derive(Drop)]
@@ -9,3 +13,6 @@ pub struct Hops {
     pub(crate) credits: CreditBooking,
     pub(crate) ring: RingBooking,
 }
+
+/// The station's chain of three hops.
+pub type Station = Chain<Chain<FrameServer, CreditServer>, RingServer>;

@@ -1,15 +1,13 @@
 ghost use Rattle.std.specs.Prelude.{◌≡◌};
 ghost use Rattle.hops.specs.Hops.{booked_in, fresh};
-ghost use Rattle.hops.specs.Station.{whole_of, opened, Standing};
+ghost use Rattle.hops.specs.Station.{opened};
 
-use crate::hops::Hops;
+use crate::hops::{Hops, Station};
 use credits::booking::CreditBooking;
-use credits::credit_server::CreditServer;
 use frame::booking::FrameBooking;
-use frame::frame_server::FrameServer;
 use join::chain::Chain;
 use ring::booking::RingBooking;
-use ring::ring_server::RingServer;
+use server::server::Server;
 
 impl Hops {
     /// Nothing is booked.
@@ -24,9 +22,8 @@ impl Hops {
     }
 
     /// Opens the bookings, which uses them up, and joins frame and credits, then that chain and the ring.
-    pub fn open(self) -> Chain<Chain<FrameServer, CreditServer>, RingServer>
-        ensures state { whole_of result ≡ opened (booked_in self) }
-        ensures standing { Standing result }
+    pub fn open(self) -> Station
+        ensures { ⟦<Station as Server>⟧.state result ≡ opened (booked_in self) }
     {
         let Hops {
             frame,

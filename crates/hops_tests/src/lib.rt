@@ -1,42 +1,32 @@
 // Traces whose bookings are refused, and what each must tell: line, field, hop and number.
 #![tactic(auto)]
 
-use faults::{Notice, RunFault};
-use hops::hops::Hops;
-use trace::read;
-
-// What a trace's fault is told as; all zeros where it has none.
-fn told(trace: &[u8]) -> Notice {
-    let mut hops = Hops::new();
-    match read(trace, &mut hops) {
-        Ok(_) => Notice {
-            line: 0,
-            field: 0,
-            hop: 0,
-            number: 0,
-        },
-        Err(fault) => fault.notice(),
-    }
-}
-
-fn at(line: u32, hop: u8, number: u8) -> Notice {
-    Notice {
-        line,
-        field: 0,
-        hop,
-        number,
-    }
-}
-
 #[cfg(test)]
 mod tests {
-    use super::*;
+    use faults::Notice;
+    use hops::hops::Hops;
+    use trace::read;
+
+    // How a trace's fault is told, if it has one.
+    fn told(trace: &[u8]) -> Option<Notice> {
+        read(trace, &mut Hops::new()).err().map(Notice::from)
+    }
+
+    // A fault of a booking: its line, its hop and its number.
+    fn at(line: u32, hop: u8, number: u8) -> Option<Notice> {
+        Some(Notice {
+            line,
+            field: 0,
+            hop,
+            number,
+        })
+    }
 
     #[test]
     fn sample(rt: HostRuntime) {
         assert_eq!(rt;
             told(b"H,S,4,64\nF,01..\nB,1,4,1,4,16\nB,1,4,1,4,16\nR,0,0,7,2\nE,12\n"),
-            at(0, 0, 0)
+            None
         );
     }
 

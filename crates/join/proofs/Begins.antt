@@ -9,7 +9,8 @@ use Rattle.server.specs.Meaning.{Client, Meaning}
 use Rattle.server.specs.Laws.{Lawful, Unused}
 use Rattle.server.specs.Order.{InOrder}
 use Rattle.join.specs.declared.fit.Misfit.TheVariants.{Differ, Used, Late}
-use Rattle.join.specs.Fit.{view_of, all_below, each, have_same_rate, idle, are_idle, is_in_reach, Answer, fitting, chain_clients}
+use Rattle.server.specs.Calls.{view_of}
+use Rattle.join.specs.Fit.{all_below, each, have_same_rate, idle, are_idle, is_in_reach, Answer, fitting, chain_clients}
 use Rattle.join.specs.Link.{whole, chained, Behind, Linked, Stands}
 
 each_below : (n : ℕ) (f : ℕ → Bool) → all_below n f ≡ true → (k : ℕ) → k < n → f k ≡ true

@@ -1,20 +1,21 @@
--- The loop of the test whether two servers fit.
-use Rattle.std.proofs.Common.{◌≡◌, ℕ, ◌+◌, Bool, true, false, ◌&&◌, sym, refl, ap, ◌∙◌, add-one}
-use Rattle.server.specs.Meaning.{Meaning}
-use Rattle.join.specs.declared.view.View.{View}
-use Rattle.join.specs.Fit.{view_of, all_below}
-
--- a test of the clients below i
-abbrev pub up_to : ℕ → (View → View → Bool) → Meaning → Meaning → Bool
-up_to i test m n = all_below i (λ k. test (view_of (m.client k)) (view_of (n.client k)))
-
-and_assoc : (a b d : Bool) → (a && b) && d ≡ a && (b && d)
-and_assoc true b d = refl
-and_assoc false b d = refl
+-- A test of each client in turn.
+use Rattle.std.proofs.Common.{◌≡◌, ℕ, zero, suc, ◌+◌, ◌<◌, Bool, true, false, ◌&&◌, eqb, sym, refl, ap, ◌∙◌, arith, add-one, eqb-true}
+use borrow.Author.Tests.{eqb-false}
+use Rattle.join.specs.Fit.{all_below}
 
 -- one client more
-pub more : (i : ℕ) (test : View → View → Bool) (m n : Meaning) (z flag r : Bool) (a b : View) → flag ≡ (z && up_to i test m n) → a ≡ view_of (m.client i) → b ≡ view_of (n.client i) → r ≡ test a b → (flag && r) ≡ (z && up_to (i + 1) test m n)
-more i test m n z flag r a b e ea eb er =
-    ap (λ (f : Bool). f && r) e ∙ ap (λ (s : Bool). (z && up_to i test m n) && s) (er ∙ ap (λ (v : View). test v b) ea ∙ ap (test (view_of (m.client i))) eb)
-    ∙ and_assoc z (up_to i test m n) (test (view_of (m.client i)) (view_of (n.client i)))
-    ∙ ap (λ (k : ℕ). z && up_to k test m n) (sym (add-one i))
+pub one_more : (n : ℕ) (f : ℕ → Bool) → all_below n f ≡ true → f n ≡ true → all_below (n + 1) f ≡ true
+one_more n f e h = ap (λ (k : ℕ). all_below k f) (add-one n) ∙ ap (λ (b : Bool). b && f n) e ∙ h
+
+-- a client that fails
+pub one_fails : (n : ℕ) (f : ℕ → Bool) (k : ℕ) → k < n → f k ≡ false → all_below n f ≡ false
+one_fails zero f k h e = absurd (omega (arith, h))
+one_fails (suc n) f k h e = by (eqb k n) refl (λ l. one_fails n f k l e)
+  where
+    and_false : (b : Bool) → (b && false) ≡ false
+    and_false true = refl
+    and_false false = refl
+
+    by : (b : Bool) → eqb k n ≡ b → (k < n → all_below n f ≡ false) → (all_below n f && f n) ≡ false
+    by true t below = ap (λ (d : Bool). all_below n f && d) (ap f (sym (eqb-true k n t)) ∙ e) ∙ and_false (all_below n f)
+    by false t below = let ne : k ≡ n → ⊥ = eqb-false k n t in ap (λ (d : Bool). d && f n) (below (omega (arith, h, ne)))

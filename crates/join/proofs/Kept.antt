@@ -1,45 +1,67 @@
 -- The rows of starts as lists, and what a write to one row makes of them.
-use Rattle.std.proofs.Common.{◌≡◌, ℕ, zero, suc, ◌+◌, ◌<◌, ◌≤◌, Bool, true, false, cond, eqb, ltb, List, [], ◌∷◌, ◌++◌, map, length, get_or, take, set, sym, refl, ap, ◌∙◌, subst, arith, length-take-le, lt-ltb, eqb-true}
+use Rattle.std.proofs.Common.{◌≡◌, ℕ, zero, suc, ◌<◌, ◌≤◌, Bool, true, false, cond, eqb, ltb, List, [], ◌∷◌, ◌++◌, map, length, get_or, set, drop, remove, All, Some, None, Option, IsSome, OnSome, IfNone, Ok, Err, Result, IsOk, OnOk, OnErr, sym, refl, ap, ◌∙◌, subst, arith, lt-ltb, ltb-true, eqb-true}
 use mathlib.Core.Path.{fun_ext}
 use lib.ListN.{length-map}
 use lib.Seq.{map-set}
 use borrow.Author.Tests.{eqb-false}
-use Rattle.std.proofs.lemmas.List.{get_or-map, get_or-set_same, get_or-set_other, get_or_past, take_more_set}
-use Rattle.join.specs.declared.row.Row.{Row}
-use Rattle.join.specs.Starts.{row_in, at_row, pushed, put_in}
+use Rattle.std.proofs.lemmas.List.{get_or-map, get_or-set_same, get_or-set_other, get_or_past}
+use Rattle.arrayvec.specs.ArrayVec.{ArrayVec}
+use Rattle.join.specs.Starts.{at_row, pushed, put_in, starts_of}
 
 -- ## One row
 
-pub push_row : (at : List ℕ) (n s : ℕ) → n < 8 → length at ≡ 8 → take (n + 1) (set at n s) ≡ pushed s (take n at)
-push_row at n s room full =
-    let l = length-take-le n at (omega arith) in
-    let t : ltb (length (take n at)) 8 ≡ true = lt-ltb (length (take n at)) 8 (omega (arith, l)) in
-    take_more_set at n s (omega arith) ∙ sym (ap (λ (b : Bool). cond b (take n at ++ (s ∷ [])) (take n at)) t)
+false_true : (x : ◌≡◌ {A = Bool} false true) → ⊥
+false_true x = let z : ◌≡◌ {A = ℕ} 0 1 = cc in absurd (omega arith)
 
-pub head_row : (n : ℕ) (at : List ℕ) → 0 < n → get_or at 0 0 ≡ get_or (take n at) 0 0
-head_row zero at h = absurd (omega arith)
-head_row (suc n) [] h = refl
-head_row (suc n) (x ∷ xs) h = refl
+pub pushed_row : {E : Type 0} (v w : ArrayVec ℕ) (s : ℕ) (r : Result (Unit {0}) E) → (IsOk r → length v.items < 8) → (length v.items < 8 → IsOk r)
+    → OnOk r (w.items ≡ v.items ++ (s ∷ [])) → OnErr r (w ≡ v) → w.items ≡ pushed s v.items
+pushed_row v w s (Ok u) to from more same = more ∙ sym (ap (λ (b : Bool). cond b (v.items ++ (s ∷ [])) v.items) (lt-ltb (length v.items) 8 (to refl)))
+pushed_row v w s (Err u) to from more same = ap (λ (x : ArrayVec ℕ). x.items) same ∙ sym (ap (λ (b : Bool). cond b (v.items ++ (s ∷ [])) v.items) (full (ltb (length v.items) 8) refl))
+  where
+    full : (b : Bool) → ltb (length v.items) 8 ≡ b → ltb (length v.items) 8 ≡ false
+    full true h = absurd (false_true (from (ltb-true (length v.items) 8 h)))
+    full false h = h
+
+pub popped_row : (v w : ArrayVec ℕ) (r : Option ℕ) → (0 < length v.items → IsSome r) → OnSome r (w.items ≡ remove v.items 0) → IfNone r (w ≡ v) → w.items ≡ drop 1 v.items
+popped_row v w (Some s) from less same = less ∙ front v.items
+  where
+    front : (xs : List ℕ) → remove xs 0 ≡ drop 1 xs
+    front [] = refl
+    front (x ∷ xs) = refl
+popped_row v w None from less same = ap (λ (x : ArrayVec ℕ). x.items) same ∙ none v.items (λ h. false_true (from h))
+  where
+    none : (xs : List ℕ) → (0 < length xs → ⊥) → xs ≡ drop 1 xs
+    none [] empty = refl
+    none (x ∷ xs) empty = absurd (empty (omega arith))
 
 -- ## All rows
 
-module _ (rs : List Row) (c : ℕ) where
-  pub row_at : (d : Row) → c < length rs → get_or (map row_in rs) c [] ≡ row_in (get_or rs c d)
-  row_at d l = get_or-map row_in rs c d [] l
+module _ (rs : List (ArrayVec ℕ)) (c : ℕ) where
+  pub row_at : (d : ArrayVec ℕ) → c < length rs → starts_of rs c ≡ (get_or rs c d).items
+  row_at d l = get_or-map (λ (r : ArrayVec ℕ). r.items) rs c d [] l
 
-  pub rows_put : (r d : Row) (f : List ℕ → List ℕ) → c < length rs → row_in r ≡ f (row_in (get_or rs c d)) → (λ k. get_or (map row_in (set rs c r)) k []) ≡ at_row c f (λ k. get_or (map row_in rs) k [])
+  pub rows_put : (r d : ArrayVec ℕ) (f : List ℕ → List ℕ) → c < length rs → r.items ≡ f (get_or rs c d).items → starts_of (set rs c r) ≡ at_row c f (starts_of rs)
   rows_put r d f l e = fun_ext (λ k. by k (eqb k c) refl)
     where
-      here : get_or (map row_in (set rs c r)) c [] ≡ f (get_or (map row_in rs) c [])
-      here = ap (λ (xs : List (List ℕ)). get_or xs c []) (map-set row_in rs c r) ∙ get_or-set_same (map row_in rs) c (row_in r) [] (omega (arith, length-map rs row_in)) ∙ e ∙ ap f (sym (row_at d l))
+      here : starts_of (set rs c r) c ≡ f (starts_of rs c)
+      here = ap (λ (xs : List (List ℕ)). get_or xs c []) (map-set (λ (v : ArrayVec ℕ). v.items) rs c r) ∙ get_or-set_same (map (λ (v : ArrayVec ℕ). v.items) rs) c r.items [] (omega (arith, l, length-map rs (λ (v : ArrayVec ℕ). v.items))) ∙ e ∙ ap f (sym (row_at d l))
 
-      by : (k : ℕ) (t : Bool) → eqb k c ≡ t → get_or (map row_in (set rs c r)) k [] ≡ cond t (f (get_or (map row_in rs) k [])) (get_or (map row_in rs) k [])
-      by k true t = subst (λ (j : ℕ). get_or (map row_in (set rs c r)) j [] ≡ f (get_or (map row_in rs) j [])) (sym (eqb-true k c t)) here
-      by k false t = ap (λ (xs : List (List ℕ)). get_or xs k []) (map-set row_in rs c r) ∙ get_or-set_other (map row_in rs) c k (row_in r) [] (eqb-false k c t)
+      by : (k : ℕ) (t : Bool) → eqb k c ≡ t → starts_of (set rs c r) k ≡ cond t (f (starts_of rs k)) (starts_of rs k)
+      by k true t = subst (λ (j : ℕ). starts_of (set rs c r) j ≡ f (starts_of rs j)) (sym (eqb-true k c t)) here
+      by k false t = ap (λ (xs : List (List ℕ)). get_or xs k []) (map-set (λ (v : ArrayVec ℕ). v.items) rs c r) ∙ get_or-set_other (map (λ (v : ArrayVec ℕ). v.items) rs) c k r.items [] (eqb-false k c t)
 
   -- nobody's row is empty
-  pub no_row : length rs ≤ c → get_or (map row_in rs) c [] ≡ []
-  no_row l = get_or_past (map row_in rs) c [] (omega (arith, length-map rs row_in))
+  pub no_row : length rs ≤ c → starts_of rs c ≡ []
+  no_row l = get_or_past (map (λ (v : ArrayVec ℕ). v.items) rs) c [] (omega (arith, l, length-map rs (λ (v : ArrayVec ℕ). v.items)))
+
+-- rows of which each is empty
+pub no_rows : (rs : List (ArrayVec ℕ)) → All (λ r. r.items ≡ []) rs → starts_of rs ≡ (λ k. [])
+no_rows rs e = fun_ext (by rs e)
+  where
+    by : (rs : List (ArrayVec ℕ)) → All (λ r. r.items ≡ []) rs → (k : ℕ) → starts_of rs k ≡ []
+    by [] e k = refl
+    by (r ∷ rs) e zero = e 0 r (omega arith)
+    by (r ∷ rs) e (suc k) = by rs (λ j d h. e (suc j) d (omega (arith, h))) k
 
 pub same_row : (ss : ℕ → List ℕ) (c : ℕ) (f : List ℕ → List ℕ) → f (ss c) ≡ ss c → ss ≡ at_row c f ss
 same_row ss c f e = fun_ext (λ k. by k (eqb k c) refl)

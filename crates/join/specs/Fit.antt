@@ -1,13 +1,10 @@
 -- Whether two servers fit. Assumes nothing.
-use Rattle.std.specs.Prelude.{ℕ, zero, suc, ◌+◌, Bool, true, cond, ◌&&◌, length, Ok, Err, Result, ◌==◌, nat_le}
-use Rattle.server.specs.Meaning.{Client, Meaning}
+use Rattle.std.specs.Prelude.{◌≡◌, ℕ, zero, suc, ◌+◌, Bool, true, cond, ◌&&◌, Ok, Err, Result, ◌==◌, nat_le}
+use Rattle.server.specs.Meaning.{Meaning}
 use Rattle.join.specs.declared.fit.Misfit.{Misfit}
 use Rattle.join.specs.declared.fit.Misfit.TheVariants.{Differ, Used, Late}
-use Rattle.join.specs.declared.view.View.{View}
-
--- what the questions tell of a client
-abbrev pub view_of : Client → View
-view_of x = record { rate = x.terms.rate; latency = x.terms.latency; clock = x.clock; waiting = length x.waiting }
+use Rattle.server.specs.declared.view.View.{View}
+use Rattle.server.specs.Calls.{view_of}
 
 -- of each client below n
 abbrev pub all_below : ℕ → (ℕ → Bool) → Bool
@@ -15,7 +12,7 @@ all_below zero f = true
 all_below (suc n) f = all_below n f && f n
 
 abbrev pub have_same_rate : View → View → Bool
-have_same_rate x y = x.rate.p == y.rate.p && x.rate.q == y.rate.q
+have_same_rate x y = x.terms.rate.p == y.terms.rate.p && x.terms.rate.q == y.terms.rate.q
 
 -- no block has come yet
 abbrev pub idle : View → Bool
@@ -25,7 +22,11 @@ abbrev pub are_idle : View → View → Bool
 are_idle x y = idle x && idle y
 
 abbrev pub is_in_reach : View → View → Bool
-is_in_reach x y = nat_le (x.latency + y.latency) 4194304
+is_in_reach x y = nat_le (x.terms.latency + y.terms.latency) 4194304
+
+-- a closure that answers as this test
+abbrev pub Tells : (View → View → Bool → Type 0) → (View → View → Bool) → Type 0
+Tells post test = (a b : View) (r : Bool) → post a b r → r ≡ test a b
 
 -- a test of two clients, for each client of both servers
 abbrev pub each : (View → View → Bool) → Meaning → Meaning → Bool

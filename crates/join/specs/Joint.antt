@@ -8,7 +8,7 @@ use Rattle.server.specs.Calls.{SlotAnswer, granted}
 use Rattle.server.specs.Machine.{Machine}
 use Rattle.join.specs.declared.chain.Chain.{Chain}
 use Rattle.join.specs.Starts.{starts_in, told, staying, noted}
-use Rattle.join.specs.Link.{chained, Stands}
+use Rattle.join.specs.Link.{chained}
 use Rattle.join.specs.Fit.{fitting, chain_clients}
 
 -- the states of both servers, the starts kept, the number of clients and the slot
@@ -20,16 +20,12 @@ pub record Joint (A B : Type 0) : Type 0 where
   pub now : ℕ
 
 -- what the chain is known by
-abbrev pub state_of : {A B : Type 0} (a : Ghosts A) (b : Ghosts B) → Chain A B → Joint a.State b.State
+abbrev pub state_of : {A B : Type 0} (a : Ghosts A) (b : Ghosts B) → Chain A B a b → Joint a.State b.State
 state_of a b x = record { first = a.state x.first; second = b.state x.second; starts = starts_in x.starts; count = x.clients; now = x.now }
 
 -- what it means
 abbrev pub means_of : {A B : Type 0} → (A → Meaning) → (B → Meaning) → Joint A B → Meaning
 means_of f g x = chained x.count x.now x.starts (f x.first) (g x.second)
-
--- a chain of two sound servers that stand together
-abbrev pub Sound : {A B : Type 0} (a : Ghosts A) (b : Ghosts B) → Chain A B → Type 0
-Sound a b x = a.sound x.first × b.sound x.second × Stands x.clients x.now (starts_in x.starts) (a.means (a.state x.first)) (b.means (b.state x.second))
 
 -- two servers joined: the first's clients where they fit, else none, at slot 0
 abbrev pub begun : {A B : Type 0} → (A → Meaning) → (B → Meaning) → A → B → Joint A B

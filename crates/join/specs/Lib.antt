@@ -8,3 +8,4 @@ pub mod Steps
 pub mod Blocks
 pub mod Leaving
 pub mod Passing
+pub mod Standing

@@ -1,18 +1,18 @@
 -- The starts that a chain keeps, and what its two servers' answers make of them. Assumes nothing.
-use Rattle.std.specs.Prelude.{ℕ, cond, List, [], ◌∷◌, ◌++◌, map, length, take, drop, Ok, Err, ◌==◌, nat_lt, slice_index, slice_index_or}
+use Rattle.std.specs.Prelude.{ℕ, cond, List, [], ◌∷◌, ◌++◌, map, length, drop, Ok, Err, ◌==◌, nat_lt, slice_index, slice_index_or}
+use Rattle.arrayvec.specs.ArrayVec.{ArrayVec}
 use Rattle.server.specs.declared.block.Served.{Served}
 use Rattle.server.specs.declared.block.Served.TheVariants.{Nothing, Unit as OneUnit, Departed}
 use Rattle.server.specs.declared.block.Departure.{Departure}
 use Rattle.server.specs.Calls.{SlotAnswer}
-use Rattle.join.specs.declared.row.Row.{Row}
-use Rattle.join.specs.declared.rows.Starts.{Starts}
-
-abbrev pub row_in : Row → List ℕ
-row_in r = take r.count r.at
+use Rattle.join.specs.declared.starts.Starts.{Starts}
 
 -- the starts of each client, oldest first
+abbrev pub starts_of : List (ArrayVec ℕ) → ℕ → List ℕ
+starts_of rows k = slice_index_or (map (λ r. r.items) rows) k []
+
 abbrev pub starts_in : Starts → ℕ → List ℕ
-starts_in s k = slice_index_or (map row_in s.rows.of) k []
+starts_in s = starts_of s.rows.items
 
 -- the rows, with client c's changed
 abbrev pub at_row : ℕ → (List ℕ → List ℕ) → (ℕ → List ℕ) → ℕ → List ℕ

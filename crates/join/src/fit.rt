@@ -1,25 +1,22 @@
 ghost use Rattle.std.specs.Prelude.{◌≡◌};
 ghost use Rattle.join.specs.Misfits.{number_of};
 
-// Why two servers do not fit.
+// Why two servers do not fit, each cause with its number.
 #[derive(Clone, Copy, PartialEq, Eq, Debug)]
 pub enum Misfit {
-    // 10: the number of clients or a rate differs
-    Differ,
-    // 11: a now, a clock or a number waiting is not 0
-    Used,
-    // 12: a summed latency is over 4,194,304
-    Late,
+    // the number of clients or a rate differs
+    Differ = 10,
+    // a now, a clock or a number waiting is not 0
+    Used = 11,
+    // a summed latency is over 4,194,304
+    Late = 12,
 }
 
 impl Misfit {
+    // Written for each enum of refusals, since a type parameter cannot be cast.
     pub fn number(self) -> u8
         ensures { result ≡ number_of self }
     {
-        match self {
-            Misfit::Differ => 10,
-            Misfit::Used => 11,
-            Misfit::Late => 12,
-        }
+        self as u8
     }
 }

@@ -1,45 +1,15 @@
-ghost use Rattle.std.specs.Prelude.{◌≡◌, ◌<◌};
-ghost use Rattle.join.specs.Fit.{view_of, have_same_rate, are_idle, is_in_reach, fitting};
+ghost use Rattle.std.specs.Prelude.{◌≡◌, Bool};
+ghost use Rattle.server.specs.declared.view.View.{View as Seen};
+ghost use Rattle.join.specs.Fit.{have_same_rate, are_idle, is_in_reach, each as each_of, Tells, fitting};
 
 use crate::fit::Misfit;
-use crate::view::View;
-use server::rate::Rate;
 use server::server::Server;
-
-// What the server tells of a client; nothing but zeros where there is none.
-fn view<S: Server>(server: &S, client: u8) -> View
-    ensures { S.Server.sound server.now → client < (S.Server.means (S.Server.state server.now)).count → result ≡ view_of ((S.Server.means (S.Server.state server.now)).client client) }
-{
-    let none = View {
-        rate: Rate { p: 0, q: 0 },
-        latency: 0,
-        clock: 0,
-        waiting: 0,
-    };
-    let Ok(rate) = server.rate(client) else {
-        return none
-    };
-    let Ok(latency) = server.latency(client) else {
-        return none
-    };
-    let Ok(clock) = server.clock(client) else {
-        return none
-    };
-    let Ok(waiting) = server.waiting(client) else {
-        return none
-    };
-    View {
-        rate,
-        latency,
-        clock,
-        waiting,
-    }
-}
+use server::view::View;
 
 fn same_rate(a: View, b: View) -> bool
     ensures { result ≡ have_same_rate a b }
 {
-    a.rate.p == b.rate.p && a.rate.q == b.rate.q
+    a.terms.rate == b.terms.rate
 }
 
 fn both_idle(a: View, b: View) -> bool
@@ -51,31 +21,38 @@ fn both_idle(a: View, b: View) -> bool
 fn in_reach(a: View, b: View) -> bool
     ensures { result ≡ is_in_reach a b }
 {
-    a.latency as u64 + b.latency as u64 <= 4194304
+    u64::from(a.terms.latency) + u64::from(b.terms.latency) <= 4194304
+}
+
+// Whether the test holds of each client of two servers that have the same number of them.
+fn each<A: Server, B: Server, T: Fn(View, View) -> bool>(first: &A, second: &B, test: T) -> bool
+    requires { T.IsAlwaysCallable test }
+    ensures { (told : Seen → Seen → Bool) → Tells (λ a b r. T.post test a b r) told → (A.Server.means (A.Server.state first.now)).count ≡ (B.Server.means (B.Server.state second.now)).count
+        → result ≡ each_of told (A.Server.means (A.Server.state first.now)) (B.Server.means (B.Server.state second.now)) }
+{
+    // A client is asked by its number.
+    for client in 0..first.clients() {
+        let (Ok(a), Ok(b)) = (first.view(client), second.view(client)) else {
+            return false;
+        };
+        if !test(a, b) {
+            return false;
+        }
+    }
+    true
 }
 
 // Whether two servers fit, or why not; both are left as they were.
 pub fn fit<A: Server, B: Server>(first: &A, second: &B) -> Result<(), Misfit>
-    ensures { A.Server.sound first.now → B.Server.sound second.now → result ≡ fitting (A.Server.means (A.Server.state first.now)) (B.Server.means (B.Server.state second.now)) }
+    ensures { result ≡ fitting (A.Server.means (A.Server.state first.now)) (B.Server.means (B.Server.state second.now)) }
 {
-    let clients = first.clients();
-    let mut same = clients == second.clients();
-    let mut idle = first.now() == 0 && second.now() == 0;
-    let mut near = true;
-    for client in 0..clients {
-        let a = view(first, client);
-        let b = view(second, client);
-        same = same & same_rate(a, b);
-        idle = idle & both_idle(a, b);
-        near = near & in_reach(a, b);
-    }
-    if !same {
+    if first.clients() != second.clients() || !each(first, second, same_rate) {
         return Err(Misfit::Differ);
     }
-    if !idle {
+    if first.now() != 0 || second.now() != 0 || !each(first, second, both_idle) {
         return Err(Misfit::Used);
     }
-    if !near {
+    if !each(first, second, in_reach) {
         return Err(Misfit::Late);
     }
     Ok(())

@@ -1,19 +1,18 @@
 ghost use Rattle.std.specs.Prelude.{◌≡◌};
 ghost use Rattle.server.specs.Laws.{Unused};
 ghost use Rattle.join.specs.Fit.{fitting, chain_clients};
-ghost use Rattle.join.specs.Joint.{state_of, means_of, Sound, begun};
+ghost use Rattle.join.specs.Joint.{state_of, means_of, begun};
 
 use crate::chain::Chain;
 use crate::fitting::fit;
-use crate::rows::Starts;
+use crate::starts::Starts;
 use server::server::Server;
 
 impl<A: Server, B: Server> Chain<A, B> {
     // Joins two servers and uses them up. Two that do not fit make a chain of no clients at slot 0.
     pub fn join(first: A, second: B) -> Chain<A, B>
-        ensures state { A.Server.sound first → B.Server.sound second → state_of A.Server B.Server result ≡ begun A.Server.means B.Server.means (A.Server.state first) (B.Server.state second) }
-        ensures sound { A.Server.sound first → B.Server.sound second → Sound A.Server B.Server result }
-        ensures unused { A.Server.sound first → B.Server.sound second → Unused (means_of A.Server.means B.Server.means (state_of A.Server B.Server result)) }
+        ensures state { state_of A.Server B.Server result ≡ begun A.Server.means B.Server.means (A.Server.state first) (B.Server.state second) }
+        ensures unused { Unused (means_of A.Server.means B.Server.means (state_of A.Server B.Server result)) }
     {
         let clients = clients_of(&first, &second);
         Chain {
@@ -28,7 +27,7 @@ impl<A: Server, B: Server> Chain<A, B> {
 
 // The clients of a chain of two servers: the first's, or none where they do not fit.
 fn clients_of<A: Server, B: Server>(first: &A, second: &B) -> u8
-    ensures { A.Server.sound first.now → B.Server.sound second.now → result ≡ chain_clients (fitting (A.Server.means (A.Server.state first.now)) (B.Server.means (B.Server.state second.now))) (A.Server.means (A.Server.state first.now)) }
+    ensures { result ≡ chain_clients (fitting (A.Server.means (A.Server.state first.now)) (B.Server.means (B.Server.state second.now))) (A.Server.means (A.Server.state first.now)) }
 {
     match fit(first, second) {
         Ok(()) => first.clients(),

@@ -7,8 +7,5 @@ pub mod chain;
 pub mod fit;
 pub mod fitting;
 mod joining;
-mod row;
-mod rows;
 pub mod serving;
 mod starts;
-mod view;

@@ -1,15 +1,15 @@
 ghost use Rattle.std.specs.Prelude.{◌≡◌};
 ghost use Rattle.join.specs.Link.{handed};
-ghost use Rattle.join.specs.Joint.{Joint, state_of, means_of, Sound, joint, handed_on};
+ghost use Rattle.join.specs.Joint.{Joint, state_of, means_of, joint, handed_on};
 ghost use Rattle.join.specs.Starts.{starts_in};
 ghost use Rattle.join.specs.Laws.{chain_lawful};
 
 use crate::chain::Chain;
 use server::block::Served;
-use server::rate::Rate;
+use server::rate::Terms;
 use server::refusal::Refusal;
 use server::server::Server;
-use server::ticks::{due_of, start_at};
+use server::view::View;
 
 impl<A: Server, B: Server> Server for Chain<A, B> {
     ghost State = { Joint A.Server.State B.Server.State };
@@ -18,15 +18,13 @@ impl<A: Server, B: Server> Server for Chain<A, B> {
 
     ghost means = { means_of A.Server.means B.Server.means };
 
-    ghost sound = { Sound A.Server B.Server };
-
     ghost named = { A.Server.named × B.Server.named };
 
     ghost machine = { joint A.Server.means B.Server.means A.Server.machine B.Server.machine };
 
-    ghost lawful = { λ x s.
-        chain_lawful x.clients x.now (starts_in x.starts) (A.Server.means (A.Server.state x.first)) (B.Server.means (B.Server.state x.second)) s.2
-        (A.Server.lawful x.first s.0) (B.Server.lawful x.second s.1) };
+    ghost lawful = { λ x.
+        chain_lawful x.clients x.now (starts_in x.starts) (A.Server.means (A.Server.state x.first)) (B.Server.means (B.Server.state x.second)) x.stands
+        (A.Server.lawful x.first) (B.Server.lawful x.second) };
 
     fn clients(&self) -> u8 {
         self.clients
@@ -36,56 +34,40 @@ impl<A: Server, B: Server> Server for Chain<A, B> {
         self.now
     }
 
-    fn rate(&self, client: u8) -> Result<Rate, Refusal> {
+    // The first's rate and clock, both latencies, and the blocks of both.
+    fn view(&self, client: u8) -> Result<View, Refusal> {
         if client >= self.clients {
             return Err(Refusal::NoClient);
         }
-        self.first.rate(client)
-    }
-
-    fn latency(&self, client: u8) -> Result<u32, Refusal> {
-        if client >= self.clients {
-            return Err(Refusal::NoClient);
-        }
-        let first = self.first.latency(client)?;
-        let second = self.second.latency(client)?;
-        Ok(first.saturating_add(second))
-    }
-
-    fn clock(&self, client: u8) -> Result<u64, Refusal> {
-        if client >= self.clients {
-            return Err(Refusal::NoClient);
-        }
-        self.first.clock(client)
-    }
-
-    fn waiting(&self, client: u8) -> Result<u8, Refusal> {
-        if client >= self.clients {
-            return Err(Refusal::NoClient);
-        }
-        let first = self.first.waiting(client)?;
-        let second = self.second.waiting(client)?;
-        Ok(first.saturating_add(second))
+        let first = self.first.view(client)?;
+        let second = self.second.view(client)?;
+        Ok(View {
+            terms: Terms {
+                latency: first.terms.latency.saturating_add(second.terms.latency),
+                ..first.terms
+            },
+            waiting: first.waiting.saturating_add(second.waiting),
+            ..first
+        })
     }
 
     // A submission goes to the first; its due is by both latencies.
     fn submit(&mut self, client: u8, label: u32, length: u8) -> Result<u64, Refusal> {
-        let rate = self.rate(client)?;
-        if length < 1 || length > 16 {
+        let view = self.view(client)?;
+        if !(1..=16).contains(&length) {
             return Err(Refusal::BadLength);
         }
-        if self.waiting(client)? >= 8 {
+        if view.waiting >= 8 {
             return Err(Refusal::Full);
         }
-        let latency = self.latency(client)?;
-        let clock = self.clock(client)?;
         let _ = self.first.submit(client, label, length);
-        Ok(due_of(rate, latency, start_at(rate, clock, self.now)))
+        let start = view.terms.rate.start_at(view.clock, self.now);
+        Ok(view.terms.due(start))
     }
 
     // The second serves, then the first, then what departed from the first goes to the second.
     fn slot(&mut self) -> Result<Served, Refusal> {
-        if self.now == 4294967295 {
+        if self.now == u32::MAX {
             return Err(Refusal::Ended);
         }
         self.now += 1;
@@ -103,11 +85,10 @@ impl<A: Server, B: Server> Server for Chain<A, B> {
 
 // Submits to the second what departed from the first.
 fn hand<B: Server>(second: &mut B, came: Result<Served, Refusal>)
-    ensures leaves { B.Server.sound second.old → B.Server.means (B.Server.state second.new) ≡ handed came (B.Server.means (B.Server.state second.old)) }
-    ensures stays { B.Server.sound second.old → B.Server.sound second.new }
-    ensures exactly { B.Server.sound second.old → B.Server.named → B.Server.state second.new ≡ handed_on B.Server.machine came (B.Server.state second.old) }
+    ensures leaves { B.Server.means (B.Server.state second.new) ≡ handed came (B.Server.means (B.Server.state second.old)) }
+    ensures exactly { B.Server.named → B.Server.state second.new ≡ handed_on B.Server.machine came (B.Server.state second.old) }
 {
-    if let Ok(Served::Departed(d)) = came {
-        let _ = second.submit(d.client, d.label, d.length);
+    if let Ok(Served::Departed(block)) = came {
+        let _ = second.submit(block.client, block.label, block.length);
     }
 }

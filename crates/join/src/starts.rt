@@ -1,74 +1,41 @@
-ghost use Rattle.std.specs.Prelude.{◌≡◌, [], drop, slice_index};
-ghost use Rattle.join.specs.Starts.{row_in, starts_in, at_row, put_in, pushed, told, staying, noted};
+ghost use Rattle.std.specs.Prelude.{◌≡◌, [], length, drop, slice_get};
 
-use crate::row::Row;
-use crate::rows::{Rows, Starts};
+use arrayvec::ArrayVec;
 use server::block::{Departure, Served};
 use server::refusal::Refusal;
 
-impl Row {
-    fn new() -> Row
-        ensures { row_in result ≡ [] }
-    {
-        Row {
-            at: [0; 8],
-            count: 0,
-        }
-    }
-
-    // One more start, where there is room.
-    fn push(&mut self, start: u64)
-        ensures { row_in self.new ≡ pushed start (row_in self.old) }
-    {
-        if self.count < 8 {
-            self.at[self.count] = start;
-            self.count += 1;
-        }
-    }
-
-    // The oldest start, which is kept no more; 0 where there is none.
-    fn pop(&mut self) -> u64
-        ensures answers { result ≡ slice_index (row_in self.old) 0 }
-        ensures leaves { row_in self.new ≡ drop 1 (row_in self.old) }
-    {
-        if self.count == 0 {
-            return 0;
-        }
-        let start = self.at[0];
-        self.at.rotate_left(1);
-        self.count -= 1;
-        start
-    }
+// For each client the starts in the first server of its blocks that wait in the second, oldest first.
+#[derive(Drop)]
+pub(crate) struct Starts {
+    pub(crate) rows: ArrayVec<ArrayVec<u64, 8>, 8>,
+    ghost full: { length rows.items ≡ 8 },
 }
 
 impl Starts {
+    ghost use Rattle.join.specs.Starts.{starts_in, at_row, put_in, told, staying, noted};
+
     pub(crate) fn new() -> Starts
         ensures { starts_in result ≡ (λ k. []) }
     {
         Starts {
-            rows: Rows {
-                of: [Row::new(); 8],
-            },
+            rows: ArrayVec::from(<[ArrayVec<u64, 8>; 8]>::default()),
         }
     }
 
     // The oldest start of a client, which is kept no more.
-    fn take(&mut self, client: u8) -> u64
-        ensures answers { result ≡ slice_index (starts_in self.old client) 0 }
+    fn take(&mut self, client: u8) -> Option<u64>
+        ensures answers { result ≡ slice_get (starts_in self.old client) 0 }
         ensures leaves { starts_in self.new ≡ at_row client (drop 1) (starts_in self.old) }
     {
-        if client >= 8 {
-            return 0;
-        }
-        self.rows.of[client as usize].pop()
+        self.rows.get_mut(client as usize)?.pop_at(0)
     }
 
-    // One more start of a client.
+    // One more start of a client, where there is room.
     fn put(&mut self, client: u8, start: u64)
         ensures { starts_in self.new ≡ put_in client start (starts_in self.old) }
     {
-        if client < 8 {
-            self.rows.of[client as usize].push(start);
+        if let Some(row) = self.rows.get_mut(client as usize) {
+            let _ = row.try_push(start);
         }
     }
 
@@ -78,17 +45,11 @@ impl Starts {
         ensures leaves { starts_in self.new ≡ staying answer (starts_in self.old) }
     {
         match answer {
-            Ok(Served::Nothing) => Served::Nothing,
-            Ok(Served::Unit(client)) => Served::Unit(client),
-            Ok(Served::Departed(d)) => {
-                let start = self.take(d.client);
-                Served::Departed(Departure {
-                    client: d.client,
-                    label: d.label,
-                    length: d.length,
-                    start,
-                })
-            }
+            Ok(Served::Departed(block)) => Served::Departed(Departure {
+                start: self.take(block.client).unwrap_or(0),
+                ..block
+            }),
+            Ok(served) => served,
             Err(_) => Served::Nothing,
         }
     }
@@ -97,8 +58,8 @@ impl Starts {
     pub(crate) fn note(&mut self, answer: Result<Served, Refusal>)
         ensures { starts_in self.new ≡ noted answer (starts_in self.old) }
     {
-        if let Ok(Served::Departed(d)) = answer {
-            self.put(d.client, d.start);
+        if let Ok(Served::Departed(block)) = answer {
+            self.put(block.client, block.start);
         }
     }
 }

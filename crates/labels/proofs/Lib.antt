@@ -1,2 +1,1 @@
 mod PacketReading
-mod PacketWriting

@@ -1,14 +1,14 @@
 -- A packet identity's text and code give each other.
-use Rattle.std.specs.Prelude.{◌≡◌, ℕ, suc, ◌+◌, ◌*◌, ◌/◌, ◌%◌, ◌^◌, ◌<◌, ◌≤◌, true, false, cond, List, [], ◌∷◌, ◌++◌, length, take, drop, Some, None, decimal, Option, ◌==◌, refl}
+use Rattle.std.specs.Prelude.{◌≡◌, ℕ, ◌+◌, ◌*◌, ◌/◌, ◌%◌, ◌^◌, ◌<◌, ◌≤◌, true, false, not, cond, List, [], ◌∷◌, ◌++◌, length, take, drop, Some, None, decimal, Option, ◌==◌, refl}
 use Rattle.decimal.proofs.TwoWays.{own, Numeral, numeral, number_decimal, decimal_number}
 use Rattle.decimal.specs.Numbers.{number_of}
 use Rattle.labels.specs.Serials.{written_up_to}
 use Rattle.labels.specs.Labels.{packet_code, packet_reads, packet_text, packet_writes}
-use Rattle.marks.proofs.Parted.{span_pass, whole}
+use Rattle.std.proofs.lemmas.List.Sums.{split_at_first, passes_at_first}
 use Rattle.marks.specs.Marks.{span_to, before, behind}
 use Rattle.std.proofs.lemmas.Nat.{div-mul-add, mod-mul-add, div-add-mod'}
 use Rattle.std.proofs.lemmas.Fmt.{digits_decimal, length-decimal-le}
-use Rattle.std.proofs.lemmas.Bool.{le-leb}
+use Rattle.std.proofs.lemmas.Bool.{le-leb, eqb-true}
 use Rattle.std.proofs.lemmas.Bool.Decides.{nat_tests}
 use Rattle.std.specs.Str.{all_ascii_digits}
 use Rattle.std.proofs.Common.{length-append, length-drop, take_at, sym, ap, ◌∙◌, arith}
@@ -34,7 +34,8 @@ digits_more d ds e = (grind (arith, nat_tests), grind (arith, nat_tests))
 span_digits : (ds rest : List ℕ) → all_ascii_digits ds ≡ true → span_to 46 (ds ++ 46 ∷ rest) ≡ length ds
 span_digits [] rest e = refl
 span_digits (d ∷ ds) rest e =
-    let p = digits_more d ds e in span_pass 46 d (ds ++ 46 ∷ rest) p.0 ∙ ap suc (span_digits ds rest p.1)
+    let p = digits_more d ds e in
+    omega (arith, ap (λ t. cond (not t) (1 + span_to 46 (ds ++ 46 ∷ rest)) 0) p.0, span_digits ds rest p.1)
 
 -- the text of a code, cut at its full stop
 module _ (code : ℕ) (small : code ≤ 33554431) where
@@ -90,13 +91,18 @@ module _ (text : List ℕ) (code : ℕ) (e : packet_reads text ≡ Some code) wh
   code-small : code ≤ 33554431
   code-small = omega (arith, read-pair.both, apid-known.bound, count-known.bound)
 
+  cut : text ≡ before 46 text ++ 46 ∷ behind 46 text
+  cut =
+      split_at_first (λ b. b == 46) text 0 has-stop
+      ∙ ap (λ b. before 46 text ++ b ∷ behind 46 text) (eqb-true _ 46 (passes_at_first (λ b. b == 46) text 0 has-stop))
+
   text-again : packet_text code ≡ text
   text-again =
       ap (λ n. decimal n ++ 46 ∷ decimal (code % 16384)) quotient
       ∙ ap (λ n. decimal read-pair.apid ++ 46 ∷ decimal n) remainder
       ∙ ap (λ ds. ds ++ 46 ∷ decimal read-pair.count) (decimal_number 2047 (before 46 text) read-pair.apid (omega arith) read-pair.left)
       ∙ ap (λ ds. before 46 text ++ 46 ∷ ds) (decimal_number 16383 (behind 46 text) read-pair.count (omega arith) read-pair.right)
-      ∙ sym (whole 46 text has-stop)
+      ∙ sym cut
 
   pub packet_sized : (1 ≤ length text) × (length text ≤ 10)
   packet_sized =

@@ -13,7 +13,7 @@ mod kind;
 mod refusal;
 
 use decimal::Text;
-pub use kind::Kind;
+pub use kind::{Kind, UnknownKind};
 pub use refusal::LabelRefusal;
 
 /// A kind of label.
@@ -43,6 +43,7 @@ pub trait LabelKind {
 }
 
 /// A serial number.
+#[derive(Clone, Copy, PartialEq, Eq, Debug)]
 pub struct Serial;
 
 impl LabelKind for Serial {
@@ -61,11 +62,12 @@ impl LabelKind for Serial {
     }
 
     fn write(code: u32) -> Result<Text, LabelRefusal> {
-        Ok(Text::number(code))
+        Ok(decimal::write(code))
     }
 }
 
 /// A packet's application identifier, a full stop, and its sequence count.
+#[derive(Clone, Copy, PartialEq, Eq, Debug)]
 pub struct Packet;
 
 impl LabelKind for Packet {
@@ -80,26 +82,17 @@ impl LabelKind for Packet {
     ghost sized = { λ text code e. packet_sized text code e };
 
     fn read(text: &[u8]) -> Option<u32> {
-        let stop = marks::span(text, b'.');
-        if stop >= text.len() {
-            return None;
-        }
-        let Some(apid) = decimal::read(&text[0..stop], 2047) else {
-            return None;
-        };
-        let Some(count) = decimal::read(&text[stop + 1..], 16383) else {
-            return None;
-        };
-        Some(apid * 16384 + count)
+        let (apid, count) = marks::split_once(text, b'.')?;
+        Some(decimal::read(apid, 2047)? * 16384 + decimal::read(count, 16383)?)
     }
 
     fn write(code: u32) -> Result<Text, LabelRefusal> {
         if code > 33554431 {
             return Err(LabelRefusal::NoText);
         }
-        let mut text = Text::number(code / 16384);
-        text.push(b'.')?;
-        text.append(&Text::number(code % 16384))?;
+        let mut text = decimal::write(code / 16384);
+        text.push_str(".");
+        text.push_str(decimal::write(code % 16384).as_str());
         Ok(text)
     }
 }

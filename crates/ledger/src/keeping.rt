@@ -1,24 +1,32 @@
 use book::calls::{Event, Order};
 use server::block::Served;
-use server::rate::Rate;
+use server::rate::Terms;
+use server::refusal::Refusal;
 use server::server::Server;
-use server::ticks::start_at;
 use std::alloc::{AllocError, Global};
 
-// A source: its rate, the latency of the whole chain, and the tick at which its next block can start.
+// A source's account: its terms over the whole chain, and the tick at which its next block can start.
 #[derive(Clone, Copy)]
-pub struct Account {
-    pub rate: Rate,
-    pub latency: u32,
-    pub clock: u64,
+struct Account {
+    terms: Terms,
+    clock: u64,
 }
 
-// A granted block, and the slot of its departure if it has left.
+impl Account {
+    // The account of a client that has sent nothing yet.
+    fn open<S: Server>(server: &S, client: u8) -> Result<Account, Refusal> {
+        Ok(Account {
+            terms: server.view(client)?.terms,
+            clock: 0,
+        })
+    }
+}
+
+// A granted block under its source's terms, and the slot of its departure if it has left.
 #[derive(Clone, Copy)]
 pub struct Entry {
-    pub client: u8,
-    pub label: u32,
-    pub length: u8,
+    pub order: Order,
+    pub terms: Terms,
     pub start: u64,
     pub due: u64,
     pub departure: Option<u32>,
@@ -35,16 +43,9 @@ pub struct Ledger {
 impl Ledger {
     // A book with no blocks, and an account for each client of the server.
     pub fn open<S: Server>(heap: Global, server: &S) -> Result<Ledger, AllocError> {
-        let mut accounts = Vec::new(heap);
-        for client in 0..server.clients() {
-            if let (Ok(rate), Ok(latency)) = (server.rate(client), server.latency(client)) {
-                accounts.push(Account {
-                    rate,
-                    latency,
-                    clock: 0,
-                })?;
-            }
-        }
+        let accounts = (0..server.clients())
+            .filter_map(|client| Account::open(server, client).ok())
+            .collect(heap)?;
         Ok(Ledger {
             slots: 0,
             accounts,
@@ -60,10 +61,6 @@ impl Ledger {
         self.entries.as_slice()
     }
 
-    pub fn account(&self, client: u8) -> Option<Account> {
-        self.accounts.get(client as usize).copied()
-    }
-
     // Enters a call and its answer; what was refused and what was only asked alters nothing.
     pub fn feed(&mut self, event: Event) -> Result<(), AllocError> {
         match event {
@@ -76,21 +73,20 @@ impl Ledger {
 
     // A granted block: its start is by the book's own clock, which it moves.
     fn enter(&mut self, order: Order, due: u64) -> Result<(), AllocError> {
-        let Some(account) = self.accounts.get_mut(order.client as usize) else {
+        let Some(account) = self.accounts.get_mut(usize::from(order.client)) else {
             return Ok(());
         };
-        let start = start_at(account.rate, account.clock, self.slots);
-        let ticks = u64::from(account.rate.q).saturating_mul(u64::from(order.length));
+        let terms = account.terms;
+        let start = terms.rate.start_at(account.clock, self.slots);
+        let ticks = u64::from(terms.rate.q).saturating_mul(u64::from(order.length));
         account.clock = start.saturating_add(ticks);
-        let entry = Entry {
-            client: order.client,
-            label: order.label,
-            length: order.length,
+        self.entries.push(Entry {
+            order,
+            terms,
             start,
             due,
             departure: None,
-        };
-        self.entries.push(entry)?;
+        })?;
         Ok(())
     }
 
@@ -105,11 +101,10 @@ impl Ledger {
     // The oldest waiting block of the client has left.
     fn depart(&mut self, client: u8) {
         let now = self.slots;
-        for entry in self.entries.iter_mut() {
-            if entry.client == client && entry.departure.is_none() {
-                entry.departure = Some(now);
-                return;
-            }
+        let oldest = self.entries.iter_mut().find(|entry| entry.order.client == client
+            && entry.departure.is_none());
+        if let Some(entry) = oldest {
+            entry.departure = Some(now);
         }
     }
 }

@@ -10,31 +10,29 @@ mod script;
 mod showing;
 mod sources;
 mod station;
+mod words;
 
 use answers::tell;
+use anyhow::Result;
 use book::calls::Event;
 use book::driving::join_and_drive;
 use join::chain::Chain;
 use keeping::Ledger;
 use script::calls;
 use server::refusal::Refusal;
-use server::server::Server;
 use showing::{show, tell_fit, tell_hop};
 use station::{credit_hop, frame_hop, ring_hop};
-use std::io;
 
-// Room for the events of the calls; an event that was not made yet.
-const ROOM: usize = 64;
-
+// Stands in the room for an event until its call is made.
 const NO_EVENT: Event = Event::Slot(Err(Refusal::Ended));
 
-fn main(rt: HostRuntime) -> io::Result<()> {
+fn main(rt: HostRuntime) -> Result<()> {
     rt.println(
         "The hops and their latencies, in ticks (1/p slot for a source that sends p units in q slots)",
     )?;
-    let frame = frame_hop();
-    let credits = credit_hop();
-    let ring = ring_hop();
+    let frame = frame_hop()?;
+    let credits = credit_hop()?;
+    let ring = ring_hop()?;
     tell_hop(&rt, "frame", &frame)?;
     tell_hop(&rt, "credits", &credits)?;
     tell_hop(&rt, "ring", &ring)?;
@@ -42,14 +40,15 @@ fn main(rt: HostRuntime) -> io::Result<()> {
     let chain = Chain::join(frame, credits);
     tell_fit(&rt, "that chain and ring", &chain, &ring)?;
     let calls = calls(rt.alloc())?;
-    let mut events = [NO_EVENT; ROOM];
-    let whole = join_and_drive(chain, ring, calls.as_slice(), &mut events);
+    let mut events = vec![in rt.alloc(); NO_EVENT; calls.len()]?;
+    let whole = join_and_drive(chain, ring, calls.as_slice(), events.as_mut_slice());
     tell_hop(&rt, "the whole", &whole)?;
     let mut ledger = Ledger::open(rt.alloc(), &whole)?;
     rt.println("\nThe submissions that were refused, and the questions")?;
-    for event in events.iter().take(calls.len()) {
-        tell(&rt, ledger.now(), *event)?;
-        ledger.feed(*event)?;
+    for event in events {
+        tell(&rt, ledger.now(), event)?;
+        ledger.feed(event)?;
     }
-    show(&rt, &ledger)
+    show(&rt, &ledger)?;
+    Ok(())
 }

@@ -1,39 +1,48 @@
-use crate::sources::{SCIENCE, STRANGER, TELEMETRY};
+use crate::sources::Source;
 use book::calls::{Call, Order, Question};
 use std::alloc::{AllocError, Global};
+use std::iter::repeat_n;
 
-// A line of the script: so many slots, or one other call.
+// The sources as clients that a question is about.
+const TELEMETRY: u8 = Source::Telemetry as u8;
+
+const SCIENCE: u8 = Source::Science as u8;
+
+const STRANGER: u8 = Source::Stranger as u8;
+
+// A line of the script: so many slots, or a block of a source by its label and length, or a question. Fields
+// go by position, so that each call of the script is one line of the table.
 #[derive(Clone, Copy)]
 enum Line {
     Slots(u8),
-    Submit(u8, u32, u8),
+    Submit(Source, u32, u8),
     Ask(Question),
 }
 
 const SCRIPT: [Line; 27] = [
     Line::Ask(Question::Clients),
-    Line::Submit(TELEMETRY, 11, 2),
-    Line::Submit(SCIENCE, 21, 4),
-    Line::Submit(SCIENCE, 22, 3),
-    Line::Submit(STRANGER, 31, 1),
-    Line::Submit(TELEMETRY, 12, 0),
+    Line::Submit(Source::Telemetry, 11, 2),
+    Line::Submit(Source::Science, 21, 4),
+    Line::Submit(Source::Science, 22, 3),
+    Line::Submit(Source::Stranger, 31, 1),
+    Line::Submit(Source::Telemetry, 12, 0),
     Line::Ask(Question::Waiting(SCIENCE)),
     Line::Ask(Question::Clock(SCIENCE)),
     Line::Slots(8),
-    Line::Submit(TELEMETRY, 13, 3),
+    Line::Submit(Source::Telemetry, 13, 3),
     Line::Slots(14),
     Line::Ask(Question::Now),
     Line::Ask(Question::Rate(SCIENCE)),
     Line::Ask(Question::Latency(STRANGER)),
-    Line::Submit(SCIENCE, 23, 2),
-    Line::Submit(SCIENCE, 24, 2),
-    Line::Submit(SCIENCE, 25, 2),
-    Line::Submit(SCIENCE, 26, 2),
-    Line::Submit(SCIENCE, 27, 2),
-    Line::Submit(SCIENCE, 28, 2),
-    Line::Submit(SCIENCE, 29, 2),
-    Line::Submit(SCIENCE, 30, 2),
-    Line::Submit(TELEMETRY, 14, 16),
+    Line::Submit(Source::Science, 23, 2),
+    Line::Submit(Source::Science, 24, 2),
+    Line::Submit(Source::Science, 25, 2),
+    Line::Submit(Source::Science, 26, 2),
+    Line::Submit(Source::Science, 27, 2),
+    Line::Submit(Source::Science, 28, 2),
+    Line::Submit(Source::Science, 29, 2),
+    Line::Submit(Source::Science, 30, 2),
+    Line::Submit(Source::Telemetry, 14, 16),
     Line::Slots(12),
     Line::Ask(Question::Waiting(TELEMETRY)),
     Line::Ask(Question::Waiting(SCIENCE)),
@@ -44,24 +53,15 @@ const SCRIPT: [Line; 27] = [
 pub fn calls(heap: Global) -> Result<Vec<Call>, AllocError> {
     let mut calls = Vec::new(heap);
     for line in SCRIPT {
-        add(&mut calls, line)?;
+        match line {
+            Line::Slots(count) => calls.extend(repeat_n(Call::Slot, usize::from(count)))?,
+            Line::Submit(source, label, length) => calls.push(Call::Submit(Order {
+                client: source.client(),
+                label,
+                length,
+            }))?,
+            Line::Ask(question) => calls.push(Call::Ask(question))?,
+        }
     }
     Ok(calls)
-}
-
-fn add(calls: &mut Vec<Call>, line: Line) -> Result<(), AllocError> {
-    match line {
-        Line::Slots(count) => {
-            for _ in 0..count {
-                calls.push(Call::Slot)?;
-            }
-        }
-        Line::Submit(client, label, length) => calls.push(Call::Submit(Order {
-            client,
-            label,
-            length,
-        }))?,
-        Line::Ask(question) => calls.push(Call::Ask(question))?,
-    }
-    Ok(())
 }

@@ -1,44 +1,32 @@
-use crate::keeping::{Account, Entry, Ledger};
-use crate::sources::{SCIENCE, TELEMETRY, name_of};
-use join::fit::Misfit;
+use crate::keeping::{Entry, Ledger};
+use crate::sources::Source;
+use crate::words::Words;
 use join::fitting::fit;
 use server::server::Server;
-use server::ticks::start_at;
-use std::io;
+use std::{fmt, io};
 
 // The latencies of a server's two sources.
-pub fn tell_hop<S: Server>(rt: &HostRuntime, hop: &str, server: &S) -> io::Result<()> {
-    let telemetry = server.latency(TELEMETRY).unwrap_or(0);
-    let science = server.latency(SCIENCE).unwrap_or(0);
+pub fn tell_hop<S: Server>(rt: &impl Print, hop: &str, server: &S) -> io::Result<()> {
+    let latency_of = |source: Source| server.latency(source.client()).unwrap_or(0);
+    let telemetry = latency_of(Source::Telemetry);
+    let science = latency_of(Source::Science);
     println!(rt; "  {hop:<10} telemetry {telemetry:>4}   science {science:>4}")
 }
 
 pub fn tell_fit<A: Server, B: Server>(
-    rt: &HostRuntime,
+    rt: &impl Print,
     what: &str,
     first: &A,
     second: &B,
 ) -> io::Result<()> {
     match fit(first, second) {
         Ok(()) => println!(rt; "  {what} fit and are joined"),
-        Err(misfit) => println!(rt;
-            "  {what} do not fit, cause {}: {}",
-            misfit.number(),
-            cause(misfit)
-        ),
-    }
-}
-
-fn cause(misfit: Misfit) -> &'static str {
-    match misfit {
-        Misfit::Differ => "their clients or rates differ",
-        Misfit::Used => "one of them is in use",
-        Misfit::Late => "their latencies sum up to too much",
+        Err(misfit) => println!(rt; "  {what} do not fit, {}", Words(misfit)),
     }
 }
 
 // The whole book, a line for each granted block.
-pub fn show(rt: &HostRuntime, ledger: &Ledger) -> io::Result<()> {
+pub fn show(rt: &impl Print, ledger: &Ledger) -> io::Result<()> {
     let now = ledger.now();
     println!(rt;
         "\nThe book after {now} slots: start, distance and bound in ticks, due and departed in slots"
@@ -48,31 +36,46 @@ pub fn show(rt: &HostRuntime, ledger: &Ledger) -> io::Result<()> {
     )?;
     println!(rt; "  source     label  units  start   due  departed  distance  bound")?;
     for entry in ledger.entries() {
-        if let Some(account) = ledger.account(entry.client) {
-            show_entry(rt, account, *entry, now)?;
-        }
+        rt.println(Row { entry: *entry, now })?;
     }
     Ok(())
 }
 
-fn show_entry(rt: &HostRuntime, account: Account, entry: Entry, now: u32) -> io::Result<()> {
-    let name = name_of(entry.client);
-    let label = entry.label;
-    let length = entry.length;
-    let start = entry.start;
-    let due = entry.due;
-    print!(rt; "  {name:<10} {label:>5} {length:>6} {start:>6} {due:>5}")?;
-    let slot = match entry.departure {
-        Some(departure) => {
-            print!(rt; " {departure:>9}")?;
-            departure
+// A line of the book after so many slots.
+#[derive(Clone, Copy)]
+struct Row {
+    entry: Entry,
+    now: u32,
+}
+
+impl Row {
+    // How far the block got from its start, in ticks: it has left, or leaves in the next slot at the soonest.
+    fn distance(&self) -> i128 {
+        let slot = self.entry.departure.unwrap_or(self.now.saturating_add(1));
+        let ticks = u64::from(self.entry.terms.rate.p) * u64::from(slot);
+        i128::from(ticks) - i128::from(self.entry.start)
+    }
+}
+
+impl fmt::Display for Row {
+    fn fmt<W: fmt::Write>(&self, f: &mut fmt::Formatter<W>) -> fmt::Result {
+        let Entry {
+            order,
+            terms,
+            start,
+            due,
+            departure,
+        } = self.entry;
+        let source = Source::from(order.client);
+        write!(
+            f,
+            "  {source:<10} {:>5} {:>6} {start:>6} {due:>5}",
+            order.label, order.length
+        )?;
+        match departure {
+            Some(slot) => write!(f, " {slot:>9}")?,
+            None => f.write_str("     waits")?,
         }
-        None => {
-            print!(rt; "     waits")?;
-            now.saturating_add(1)
-        }
-    };
-    let distance = i128::from(start_at(account.rate, 0, slot)) - i128::from(start);
-    let bound = account.latency;
-    println!(rt; " {distance:>9} {bound:>6}")
+        write!(f, " {:>9} {:>6}", self.distance(), terms.latency)
+    }
 }

@@ -1,3 +1,5 @@
+use crate::sources::Source;
+use clients::booking::BookingRefusal;
 use credits::booking::CreditBooking;
 use credits::credit_server::CreditServer;
 use frame::booking::FrameBooking;
@@ -5,36 +7,48 @@ use frame::frame_server::FrameServer;
 use ring::booking::RingBooking;
 use ring::ring_server::RingServer;
 use server::rate::Rate;
+use thiserror::Error;
 
-// What telemetry and science reserve on every hop, in this order. A reservation that was refused would
-// leave its hop with fewer clients than the others, which then do not fit.
+// A hop that could not be booked.
+#[derive(Debug, Drop, Error)]
+#[error("a booking is refused with {}", .0.number())]
+pub struct Unbooked(#[from] BookingRefusal);
+
+// What telemetry and science reserve on every hop, in this order.
 const TELEMETRY_RATE: Rate = Rate { p: 1, q: 4 };
 
 const SCIENCE_RATE: Rate = Rate { p: 2, q: 5 };
 
+// The owners of a frame's slots.
+const TELEMETRY: Option<u8> = Some(Source::Telemetry as u8);
+
+const SCIENCE: Option<u8> = Some(Source::Science as u8);
+
 // Four slots: two of science, one of telemetry, one of nobody.
-const OWNERS: [Option<u8>; 4] = [Some(1), Some(0), Some(1), None];
+const OWNERS: [Option<u8>; 4] = [SCIENCE, TELEMETRY, SCIENCE, None];
 
-pub fn frame_hop() -> FrameServer {
+// The three bookings are types of their own, and each carries a rate by a share of its own kind, so each is
+// booked by a function of its own.
+pub fn frame_hop() -> Result<FrameServer, Unbooked> {
     let mut booking = FrameBooking::new();
-    let _ = booking.set_frame(&OWNERS);
-    let _ = booking.reserve(TELEMETRY_RATE);
-    let _ = booking.reserve(SCIENCE_RATE);
-    booking.open()
+    booking.set_frame(&OWNERS)?;
+    booking.reserve(TELEMETRY_RATE)?;
+    booking.reserve(SCIENCE_RATE)?;
+    Ok(booking.open())
 }
 
-pub fn credit_hop() -> CreditServer {
+pub fn credit_hop() -> Result<CreditServer, Unbooked> {
     let mut booking = CreditBooking::new();
-    let _ = booking.set_denominator(4);
-    let _ = booking.reserve(TELEMETRY_RATE, 1, 4);
-    let _ = booking.reserve(SCIENCE_RATE, 2, 4);
-    booking.open()
+    booking.set_denominator(4)?;
+    booking.reserve(TELEMETRY_RATE, 1, 4)?;
+    booking.reserve(SCIENCE_RATE, 2, 4)?;
+    Ok(booking.open())
 }
 
-pub fn ring_hop() -> RingServer {
+pub fn ring_hop() -> Result<RingServer, Unbooked> {
     let mut booking = RingBooking::new();
-    let _ = booking.set_total(64);
-    let _ = booking.reserve(TELEMETRY_RATE, 16);
-    let _ = booking.reserve(SCIENCE_RATE, 26);
-    booking.open()
+    booking.set_total(64)?;
+    booking.reserve(TELEMETRY_RATE, 16)?;
+    booking.reserve(SCIENCE_RATE, 26)?;
+    Ok(booking.open())
 }

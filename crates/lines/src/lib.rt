@@ -4,12 +4,9 @@
 #![tactic(auto)]
 
 mod lines;
-mod listing;
 mod owners;
 mod records;
-mod table;
 
 pub use lines::{client, end, header, request};
 pub use owners::frame;
 pub use records::{Client, Header, Owner, Request};
-pub use table::Table;

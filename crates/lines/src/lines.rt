@@ -1,42 +1,36 @@
 // The lines of a trace, each read from its own bytes.
 ghost use Rattle.lines.specs.Lines.{client_of, end_of, header_of, kind_in, request_of};
+ghost use Rattle.reader.specs.Fields.{after_field};
+ghost use Rattle.reader.specs.Parts.{field_number, fields_left, first_field, other_fields};
 ghost use Rattle.std.specs.Prelude.{◌≡◌};
 
 use crate::records::{Client, Header, Request};
 use faults::{FieldCause, FieldFault, LineFault};
 use labels::{Kind, LabelKind};
-use reader::{behind_letter, label, number, open, small};
+use reader::{Fields, open};
 
-/// The kind that a field names by its letter.
-fn kind(text: &[u8], field: u8) -> Result<Kind, FieldFault>
-    ensures { result ≡ kind_in field text.now }
+/// The kind that the next field names by its letter.
+fn kind(fields: &mut Fields<'_>) -> Result<Kind, FieldFault>
+    ensures value { result ≡ kind_in (field_number fields.old) (first_field (fields_left fields.old)) }
+    ensures left { fields_left fields.new ≡ other_fields (fields_left fields.old) }
+    ensures number { field_number fields.new ≡ after_field (field_number fields.old) }
 {
-    let fault = FieldFault {
-        field,
-        cause: FieldCause::Form,
-    };
-    let [letter] = text else {
+    let fault = fields.fault(FieldCause::Form);
+    let [letter] = fields.text() else {
         return Err(fault);
     };
-    match Kind::of(*letter) {
-        Some(kind) => Ok(kind),
-        None => Err(fault),
-    }
+    Kind::try_from(*letter).map_err(|_| fault)
 }
 
 /// The line `H,kind,D,F`.
 pub fn header(line: &[u8]) -> Result<Header, LineFault>
     ensures { result ≡ header_of line.now }
 {
-    open(line, b'H', 4)?;
-    let mut fields = behind_letter(line);
-    let kind = kind(fields.field(), 2)?;
-    let denominator = number(&mut fields, 3, 65536)?;
-    let total = number(&mut fields, 4, 65536)?;
+    let mut fields = open(line, b'H', 4)?;
     Ok(Header {
-        kind,
-        denominator,
-        total,
+        kind: kind(&mut fields)?,
+        denominator: fields.number(65536)?,
+        total: fields.number(65536)?,
     })
 }
 
@@ -44,19 +38,13 @@ pub fn header(line: &[u8]) -> Result<Header, LineFault>
 pub fn client(line: &[u8]) -> Result<Client, LineFault>
     ensures { result ≡ client_of line.now }
 {
-    open(line, b'B', 6)?;
-    let mut fields = behind_letter(line);
-    let units = number(&mut fields, 2, 65536)?;
-    let slots = number(&mut fields, 3, 65536)?;
-    let step = number(&mut fields, 4, 65536)?;
-    let cap = number(&mut fields, 5, 65536)?;
-    let quantum = number(&mut fields, 6, 65536)?;
+    let mut fields = open(line, b'B', 6)?;
     Ok(Client {
-        units,
-        slots,
-        step,
-        cap,
-        quantum,
+        units: fields.number(65536)?,
+        slots: fields.number(65536)?,
+        step: fields.number(65536)?,
+        cap: fields.number(65536)?,
+        quantum: fields.number(65536)?,
     })
 }
 
@@ -64,17 +52,12 @@ pub fn client(line: &[u8]) -> Result<Client, LineFault>
 pub fn request<L: LabelKind>(line: &[u8]) -> Result<Request, LineFault>
     ensures { result ≡ request_of L.LabelKind.reads line.now }
 {
-    open(line, b'R', 5)?;
-    let mut fields = behind_letter(line);
-    let slot = number(&mut fields, 2, 1000000)?;
-    let client = small(&mut fields, 3)?;
-    let label = label::<L>(&mut fields, 4)?;
-    let length = small(&mut fields, 5)?;
+    let mut fields = open(line, b'R', 5)?;
     Ok(Request {
-        slot,
-        client,
-        label,
-        length,
+        slot: fields.number(1000000)?,
+        client: fields.small()?,
+        label: fields.label::<L>()?,
+        length: fields.small()?,
     })
 }
 
@@ -82,8 +65,5 @@ pub fn request<L: LabelKind>(line: &[u8]) -> Result<Request, LineFault>
 pub fn end(line: &[u8]) -> Result<u32, LineFault>
     ensures { result ≡ end_of line.now }
 {
-    open(line, b'E', 2)?;
-    let mut fields = behind_letter(line);
-    let slot = number(&mut fields, 2, 1000000)?;
-    Ok(slot)
+    Ok(open(line, b'E', 2)?.number(1000000)?)
 }

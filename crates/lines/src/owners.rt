@@ -1,13 +1,14 @@
 // The line of the frame's owners.
+ghost use Rattle.lines.specs.Frames.{frame_of, items_in, owner_of, owners_in};
+ghost use Rattle.lines.specs.Owners.{Owner};
+ghost use Rattle.arrayvec.specs.ArrayVec.{ArrayVec as Items};
 ghost use Rattle.std.specs.Option.{option_map};
-ghost use Rattle.lines.specs.Frames.{frame_of, listed_in, owner_of, owners_in};
-ghost use Rattle.lines.specs.Tables.{listed};
 ghost use Rattle.std.specs.Prelude.{◌≡◌};
 
 use crate::records::Owner;
-use crate::table::Table;
-use faults::{FieldCause, FieldFault, LineFault};
-use reader::{behind_letter, open};
+use arrayvec::ArrayVec;
+use faults::{FieldCause, LineFault};
+use reader::open;
 
 /// Who a character stands for: a client by its digit, or nobody by a full stop.
 fn owner(letter: u8) -> Option<Owner>
@@ -21,35 +22,24 @@ fn owner(letter: u8) -> Option<Owner>
 }
 
 /// The owners of a text of 1 to 256 characters.
-fn owners(text: &[u8]) -> Option<Table<Owner, 256>>
-    ensures { option_map listed result ≡ owners_in text.now }
+fn owners(text: &[u8]) -> Option<ArrayVec<Owner, 256>>
+    ensures { option_map (λ (owners : Items Owner). owners.items) result ≡ owners_in text.now }
 {
-    if text.is_empty() || text.len() > 256 {
+    if text.is_empty() {
         return None;
     }
-    let mut owners = Table::new(None);
+    let mut owners = ArrayVec::new();
     for letter in text {
-        match owner(*letter) {
-            Some(owner) => {
-                let _ = owners.push(owner);
-            }
-            None => return None,
-        }
+        owners.try_push(owner(*letter)?).ok()?;
     }
     Some(owners)
 }
 
 /// The line `F,owners`.
-pub fn frame(line: &[u8]) -> Result<Table<Owner, 256>, LineFault>
-    ensures { listed_in result ≡ frame_of line.now }
+pub fn frame(line: &[u8]) -> Result<ArrayVec<Owner, 256>, LineFault>
+    ensures { items_in result ≡ frame_of line.now }
 {
-    open(line, b'F', 2)?;
-    let mut fields = behind_letter(line);
-    match owners(fields.field()) {
-        Some(owners) => Ok(owners),
-        None => Err(LineFault::Field(FieldFault {
-            field: 2,
-            cause: FieldCause::Form,
-        })),
-    }
+    let mut fields = open(line, b'F', 2)?;
+    let fault = fields.fault(FieldCause::Form);
+    Ok(owners(fields.text()).ok_or(fault)?)
 }

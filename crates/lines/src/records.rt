@@ -2,7 +2,7 @@
 use labels::Kind;
 
 /// The header: the kind of the labels, the denominator of the credits and the total of the ring.
-#[derive(Clone, Copy)]
+#[derive(Clone, Copy, PartialEq, Eq, Debug)]
 pub struct Header {
     pub kind: Kind,
     pub denominator: u32,
@@ -13,7 +13,7 @@ pub struct Header {
 pub type Owner = Option<u8>;
 
 /// A client: its rate of `units` in `slots`, its step and cap of credits, and its quantum in the ring.
-#[derive(Clone, Copy)]
+#[derive(Clone, Copy, Default, PartialEq, Eq, Debug)]
 pub struct Client {
     pub units: u32,
     pub slots: u32,
@@ -23,7 +23,7 @@ pub struct Client {
 }
 
 /// A request: a block of `length` units with a label's code, submitted for a client at a slot.
-#[derive(Clone, Copy)]
+#[derive(Clone, Copy, Default, PartialEq, Eq, Debug)]
 pub struct Request {
     pub slot: u32,
     pub client: u8,

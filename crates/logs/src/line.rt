@@ -1,7 +1,7 @@
 // The lines of a log.
 
 /// A client's latency, in ticks and in slots.
-#[derive(Clone, Copy)]
+#[derive(Clone, Copy, PartialEq, Eq, Debug)]
 pub struct LatencyLine {
     pub client: u8,
     pub latency: u32,
@@ -9,7 +9,7 @@ pub struct LatencyLine {
 }
 
 /// A block that was granted at a slot, with its due.
-#[derive(Clone, Copy)]
+#[derive(Clone, Copy, PartialEq, Eq, Debug)]
 pub struct GrantLine {
     pub slot: u32,
     pub client: u8,
@@ -18,7 +18,7 @@ pub struct GrantLine {
 }
 
 /// A block that was refused at a slot, with the refusal's number.
-#[derive(Clone, Copy)]
+#[derive(Clone, Copy, PartialEq, Eq, Debug)]
 pub struct RefusalLine {
     pub slot: u32,
     pub client: u8,
@@ -27,7 +27,7 @@ pub struct RefusalLine {
 }
 
 /// A block that departed, and when.
-#[derive(Clone, Copy)]
+#[derive(Clone, Copy, PartialEq, Eq, Debug)]
 pub struct DepartureLine {
     pub slot: u32,
     pub client: u8,
@@ -35,7 +35,7 @@ pub struct DepartureLine {
 }
 
 /// A line of a log. Labels are codes; the log's label kind writes them.
-#[derive(Clone, Copy)]
+#[derive(Clone, Copy, PartialEq, Eq, Debug)]
 pub enum Line {
     Latency(LatencyLine),
     Grant(GrantLine),

@@ -1,5 +1,5 @@
 -- What a field says: a letter, a number or a label, or the fault that it is not.
-use Rattle.std.specs.Prelude.{ℕ, Bool, false, cond, List, [], ◌∷◌, Some, None, Ok, Err, Option, Result, ◌==◌}
+use Rattle.std.specs.Prelude.{ℕ, ◌+◌, min, Bool, false, cond, List, [], ◌∷◌, Some, None, Ok, Err, Option, Result, ◌==◌}
 use Rattle.decimal.specs.Numbers.{number_of}
 use Rattle.reader.specs.Parts.{field_at, fields_in}
 use Rattle.faults.specs.declared.FieldCause.TheVariants.{Form, Label}
@@ -22,6 +22,10 @@ opens letter fields line = cond (only letter (field_at 0 line)) (cond (fields_in
 abbrev pub or_fault : {A : Type 0} → ℕ → FieldCause → Option A → Result A FieldFault
 or_fault field cause None = Err (record { field = field; cause = cause })
 or_fault field cause (Some x) = Ok x
+
+-- the number of the field that follows; the count stops at 255
+abbrev pub after_field : ℕ → ℕ
+after_field field = min (field + 1) 255
 
 -- a field that is a number up to `most`
 abbrev pub number_in : ℕ → ℕ → List ℕ → Result ℕ FieldFault

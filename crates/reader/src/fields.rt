@@ -1,92 +1,80 @@
-// The fields of a line, from the left: its letter, its numbers and its label.
-ghost use Rattle.marks.specs.Marks.{before, behind};
-ghost use Rattle.reader.specs.Fields.{label_in, number_in, only, opens};
-ghost use Rattle.reader.specs.Parts.{left};
-ghost use Rattle.std.specs.Prelude.{◌≡◌};
+// The fields of a line, from the left: texts, numbers and labels.
+ghost use Rattle.reader.specs.Fields.{after_field, label_in, number_in};
+ghost use Rattle.reader.specs.Parts.{field_number, fields_left, first_field, other_fields};
+ghost use Rattle.std.specs.Prelude.{◌≡◌, ◌≤◌, IfOk};
 
-use crate::reader::Reader;
-use faults::{FieldCause, FieldFault, LineFault};
+use faults::{FieldCause, FieldFault};
 use labels::LabelKind;
 
-/// Whether a text is that one byte.
-fn is_only(text: &[u8], letter: u8) -> bool
-    ensures { result ≡ only letter text.now }
-{
-    match text {
-        [byte] => *byte == letter,
-        _ => false,
+/// The fields of a line that are left, and the number of the next. A line's letter is its field 1.
+#[derive(Clone, Copy)]
+pub struct Fields<'a> {
+    bytes: &'a [u8],
+    next: u8,
+}
+
+impl<'a> Fields<'a> {
+    /// All fields of a line.
+    pub fn new(line: &'a [u8]) -> Fields<'a>
+        ensures left { fields_left result ≡ line.now }
+        ensures number { field_number result ≡ 1 }
+    {
+        Fields {
+            bytes: line,
+            next: 1,
+        }
     }
-}
 
-/// Whether a line begins with that letter as its first field.
-pub fn begins(line: &[u8], letter: u8) -> bool
-    ensures { result ≡ only letter (before 44 line.now) }
-{
-    let mut fields = Reader::new(line);
-    is_only(fields.field(), letter)
-}
-
-/// Tests a line's letter and then its number of fields.
-pub fn open(line: &[u8], letter: u8, fields: usize) -> Result<(), LineFault>
-    ensures { result ≡ opens letter fields line.now }
-{
-    if !begins(line, letter) {
-        return Err(LineFault::Letter);
+    /// The fault of the next field.
+    pub fn fault(&self, cause: FieldCause) -> FieldFault
+        ensures { result ≡ record { field = field_number self.now; cause = cause } }
+    {
+        FieldFault {
+            field: self.next,
+            cause,
+        }
     }
-    let commas = marks::count(line, b',');
-    if commas >= fields || commas + 1 != fields {
-        return Err(LineFault::Fields);
+
+    /// The next field.
+    pub fn text(&mut self) -> &'a [u8]
+        ensures value { result.now ≡ first_field (fields_left self.old) }
+        ensures left { fields_left self.new ≡ other_fields (fields_left self.old) }
+        ensures number { field_number self.new ≡ after_field (field_number self.old) }
+    {
+        let (text, rest) = marks::split_once(self.bytes, b',').unwrap_or((self.bytes, &[]));
+        self.bytes = rest;
+        // No kind of line has so many fields that the count would stop.
+        self.next = self.next.saturating_add(1);
+        text
     }
-    Ok(())
-}
 
-/// The fields of a line behind its letter.
-pub fn behind_letter<'a>(line: &'a [u8]) -> Reader<'a>
-    ensures { left result ≡ behind 44 line.now }
-{
-    let mut fields = Reader::new(line);
-    let _ = fields.field();
-    fields
-}
-
-/// The next field as a number up to `most`.
-pub fn number(fields: &mut Reader<'_>, field: u8, most: u32) -> Result<u32, FieldFault>
-    ensures value { result ≡ number_in field most (before 44 (left fields.old)) }
-    ensures after { left fields.new ≡ behind 44 (left fields.old) }
-{
-    match decimal::read(fields.field(), most) {
-        Some(number) => Ok(number),
-        None => Err(FieldFault {
-            field,
-            cause: FieldCause::Form,
-        }),
+    /// The next field as a number up to `most`.
+    pub fn number(&mut self, most: u32) -> Result<u32, FieldFault>
+        ensures value { result ≡ number_in (field_number self.old) most (first_field (fields_left self.old)) }
+        ensures bound { IfOk result (λ number. number ≤ most) }
+        ensures left { fields_left self.new ≡ other_fields (fields_left self.old) }
+        ensures number { field_number self.new ≡ after_field (field_number self.old) }
+    {
+        let fault = self.fault(FieldCause::Form);
+        decimal::read(self.text(), most).ok_or(fault)
     }
-}
 
-/// The next field as a number up to 255.
-pub fn small(fields: &mut Reader<'_>, field: u8) -> Result<u8, FieldFault>
-    ensures value { result ≡ number_in field 255 (before 44 (left fields.old)) }
-    ensures after { left fields.new ≡ behind 44 (left fields.old) }
-{
-    match decimal::read(fields.field(), 255) {
-        Some(number) => Ok(number as u8),
-        None => Err(FieldFault {
-            field,
-            cause: FieldCause::Form,
-        }),
+    /// The next field as a number up to 255.
+    pub fn small(&mut self) -> Result<u8, FieldFault>
+        ensures value { result ≡ number_in (field_number self.old) 255 (first_field (fields_left self.old)) }
+        ensures left { fields_left self.new ≡ other_fields (fields_left self.old) }
+        ensures number { field_number self.new ≡ after_field (field_number self.old) }
+    {
+        Ok(self.number(255)? as u8)
     }
-}
 
-/// The next field as a label of the kind `L`.
-pub fn label<L: LabelKind>(fields: &mut Reader<'_>, field: u8) -> Result<u32, FieldFault>
-    ensures value { result ≡ label_in field L.LabelKind.reads (before 44 (left fields.old)) }
-    ensures after { left fields.new ≡ behind 44 (left fields.old) }
-{
-    match L::read(fields.field()) {
-        Some(code) => Ok(code),
-        None => Err(FieldFault {
-            field,
-            cause: FieldCause::Label,
-        }),
+    /// The next field as a label of the kind `L`.
+    pub fn label<L: LabelKind>(&mut self) -> Result<u32, FieldFault>
+        ensures value { result ≡ label_in (field_number self.old) L.LabelKind.reads (first_field (fields_left self.old)) }
+        ensures left { fields_left self.new ≡ other_fields (fields_left self.old) }
+        ensures number { field_number self.new ≡ after_field (field_number self.old) }
+    {
+        let fault = self.fault(FieldCause::Label);
+        L::read(self.text()).ok_or(fault)
     }
 }

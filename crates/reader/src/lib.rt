@@ -4,8 +4,9 @@
 #![tactic(auto)]
 
 mod fields;
-mod parts;
+mod opening;
 mod reader;
 
-pub use fields::{begins, behind_letter, label, number, open, small};
+pub use fields::Fields;
+pub use opening::{begins, open};
 pub use reader::Reader;

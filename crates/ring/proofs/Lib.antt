@@ -1,3 +1,4 @@
 pub mod Rounds
 pub mod Slots
+pub mod Circle
 pub mod Reservations

@@ -1,66 +1,91 @@
 -- What is reserved keeps within the ring total and its ranges, and opens as a sound ring.
-use Rattle.std.proofs.Common.{◌≡◌, ℕ, ◌+◌, ◌-◌, ◌*◌, ◌/◌, ◌<◌, ◌≤◌, Bool, true, false, cond, ◌&&◌, eqb, ltb, leb, ◌≢◌, length, set, sym, refl, ap, ◌∙◌, subst, ⊎_elim, mul-le-mul_right, mul-le-mul, mul-le-mul_left, arith, le-ltb, lt-ltb, eqb-true, leb-true}
+use Rattle.std.proofs.Common.{◌≡◌, ℕ, ◌+◌, ◌-◌, ◌*◌, ◌/◌, ◌<◌, ◌≤◌, Bool, true, false, cond, ◌&&◌, eqb, ltb, leb, ◌≢◌, List, length, get_or, [], ◌∷◌, ◌++◌, Ok, Err, Result, OnOk, OnErr, sym, refl, ap, ◌∙◌, subst, ⊎_elim, mul-le-mul_right, mul-le-mul, mul-le-mul_left, arith, le-ltb, lt-ltb, eqb-true, leb-true}
 use mathlib.Core.Path.{fun_ext}
 use native.Mathlib.Nat.{le_of_mul-le-mul_left}
 use borrow.Author.Tests.{eqb-false, clash}
-use Rattle.std.proofs.lemmas.List.{get_or-set_same, get_or-set_other, get_or-replicate}
+use Rattle.std.proofs.Math.ListN.{get_or-append, get_or-map}
+use Rattle.std.proofs.lemmas.List.{length-append}
+use Rattle.arrayvec.specs.ArrayVec.{ArrayVec}
+use Rattle.std.proofs.Math.Seq.{get_or-append_seam}
 use Rattle.std.proofs.lemmas.Bool.{and_parts, cases_eq, cases_lt}
 use Rattle.server.specs.declared.rate.Rate.{Rate}
 use Rattle.server.specs.declared.rate.Terms.{Terms}
 use Rattle.server.specs.Meaning.{Client, Meaning}
 use Rattle.server.specs.Calls.{at}
 use Rattle.server.specs.Laws.{Unused}
+use Rattle.clients.specs.declared.booking.NotAdmitted.{NotAdmitted}
 use Rattle.clients.specs.Held.{latency_for}
-use Rattle.clients.specs.View.{vacant}
-use Rattle.clients.specs.Serving.{new_client, no_clients, rate_ok, terms_ok, admits, admitted}
+use Rattle.clients.specs.View.{vacant, new_client}
+use Rattle.clients.specs.Serving.{no_clients, rate_ok, terms_ok, admits, admission, admitted}
 use Rattle.clients.proofs.Kept.{rate_ranged, ranged_terms}
+use Rattle.ring.specs.declared.shares.Share.{Share as Reserved}
 use Rattle.ring.specs.declared.shares.Shares.{Shares}
+use Rattle.ring.specs.declared.turns.Place.{Place}
 use Rattle.ring.specs.declared.turns.Ring.{Ring}
+use Rattle.ring.specs.declared.booking.RingBooking.{RingBooking}
 use Rattle.ring.specs.Sums.{sum}
-use Rattle.ring.specs.Shares.{rate_in, quantum_in, quantum_ok, carries, Carried, theta, terms_in}
-use Rattle.ring.specs.Turns.{deficit_of}
+use Rattle.ring.specs.Shares.{count_in, no_share, share_in, rate_in, quantum_in, quantum_ok, carries, Carried, theta, terms_in}
+use Rattle.ring.specs.Turns.{place_of, quantum_of, deficit_of}
 use Rattle.ring.specs.Paced.{Share}
 use Rattle.ring.specs.Search.{Sound, gone_round}
-use Rattle.ring.specs.States.{first_clients, fresh_ring}
+use Rattle.ring.specs.States.{first_clients, fresh_place, fresh_ring}
 use Rattle.ring.specs.SumsLemmas.{by_test, sum_le, sum_more, others_split}
 use Rattle.ring.specs.Giving.{share_new}
 use Rattle.ring.specs.Pacing.{resting}
 
 -- ## One more
 
-module _ (s : Shares) (x : Rate) (quantum : ℕ) (rates : length s.rates ≡ 8) (quanta : length s.quanta ≡ 8) (few : s.count < 8) where
+module _ (b : RingBooking) (x : Rate) (quantum : ℕ) where
+  abbrev old : Shares
+  old = b.shares
+
+  abbrev share : Reserved
+  share = record { rate = x; quantum = quantum }
+
   abbrev more : Shares
-  more = record { total = s.total; count = s.count + 1; rates = set s.rates s.count x; quanta = set s.quanta s.count quantum }
+  more = record { total = old.total; reserved = record { items = old.reserved.items ++ (share ∷ []) } }
 
-  rate-new : rate_in more s.count ≡ x
-  rate-new = get_or-set_same s.rates s.count x (record { p = 0; q = 0 }) (omega (arith, rates))
+  share-new : share_in more (count_in old) ≡ share
+  share-new = get_or-append_seam old.reserved.items share [] no_share
 
-  rate-old : (k : ℕ) → k ≢ s.count → rate_in more k ≡ rate_in s k
-  rate-old k n = get_or-set_other s.rates s.count k x (record { p = 0; q = 0 }) n
+  share-old : (k : ℕ) → k < count_in old → share_in more k ≡ share_in old k
+  share-old k l = get_or-append old.reserved.items (share ∷ []) no_share k l
 
-  quantum-new : quantum_in more s.count ≡ quantum
-  quantum-new = get_or-set_same s.quanta s.count quantum 0 (omega (arith, quanta))
-
-  quantum-old : (k : ℕ) → k ≢ s.count → quantum_in more k ≡ quantum_in s k
-  quantum-old k n = get_or-set_other s.quanta s.count k quantum 0 n
-
-  pub within_more : sum s.count (quantum_in s) + quantum ≤ s.total → sum (s.count + 1) (quantum_in more) ≤ s.total
-  within_more h =
+  within-more : sum (count_in old) (quantum_in old) + quantum ≤ old.total → sum (count_in old + 1) (quantum_in more) ≤ old.total
+  within-more h =
+      let new : quantum_in more (count_in old) ≡ quantum = ap (λ (y : Reserved). y.quantum) share-new in
       omega (
         arith,
-        sum_more s.count (quantum_in more),
-        quantum-new,
-        sum_le s.count (quantum_in more) (quantum_in s) (λ j l. omega (arith, quantum-old j (λ z. omega arith))),
+        sum_more (count_in old) (quantum_in more),
+        new,
+        sum_le (count_in old) (quantum_in more) (quantum_in old) (λ j l. omega (arith, ap (λ (y : Reserved). y.quantum) (share-old j l))),
       )
 
-  pub carried_more : rate_ok x ≡ true → quantum_ok quantum ≡ true → carries s.total x quantum ≡ true → ((k : ℕ) → k < s.count → Carried s k) → (k : ℕ) → k < s.count + 1 → Carried more k
-  carried_more r q c h k l = ⊎_elim
-      (λ (e : k ≡ s.count). subst (Carried more) (sym e)
-      (ap rate_ok rate-new ∙ r, ap quantum_ok quantum-new ∙ q, ap (λ (y : Rate). carries s.total y (quantum_in more s.count)) rate-new ∙ ap (carries s.total x) quantum-new ∙ c))
-      (λ n.
-      let o = h k (omega (arith, l, n)) in
-      (ap rate_ok (rate-old k n) ∙ o.0, ap quantum_ok (quantum-old k n) ∙ o.1, ap (λ (y : Rate). carries s.total y (quantum_in more k)) (rate-old k n) ∙ ap (carries s.total (rate_in s k)) (quantum-old k n) ∙ o.2))
-      (cases_eq k s.count)
+  -- `Carried`, of a share
+  abbrev Carries : Reserved → Type 0
+  Carries y = (rate_ok y.rate ≡ true) × (quantum_ok y.quantum ≡ true) × (carries old.total y.rate y.quantum ≡ true)
+
+  carried-more : Carries share → (k : ℕ) → k < count_in old + 1 → Carried more k
+  carried-more h k l = ⊎_elim
+      (λ (e : k ≡ count_in old). subst (Carried more) (sym e) (subst Carries (sym share-new) h))
+      (λ n. let low : k < count_in old = omega (arith, l, n) in subst Carries (sym (share-old k low)) (b.carried k low))
+      (cases_eq k (count_in old))
+
+  abbrev Fits : Shares → Type 0
+  Fits y = (sum (count_in y) (quantum_in y) ≤ old.total) × ((k : ℕ) → k < count_in y → Carried y k)
+
+  -- the share is pushed where there is room for it, and else nothing changes
+  module _ {E : Type 0} (after : ArrayVec Reserved) where
+    pub fits_after : (r : Result (Unit {0}) E) → OnOk r (after.items ≡ old.reserved.items ++ (share ∷ [])) → OnErr r (after ≡ old.reserved)
+        → sum (count_in old) (quantum_in old) + quantum ≤ old.total → Carries share → Fits (record { total = old.total; reserved = after })
+    fits_after (Ok _) e _ h c =
+        let f : List Reserved → Shares = λ ys. record { total = old.total; reserved = record { items = ys } } in
+        let long : count_in more ≡ count_in old + 1 = length-append old.reserved.items (share ∷ []) in
+        subst (λ (ys : List Reserved). Fits (f ys)) (sym e) (
+          subst (λ (n : ℕ). sum n (quantum_in more) ≤ old.total) (sym long) (within-more h),
+          subst (λ (n : ℕ). (k : ℕ) → k < n → Carried more k) (sym long) (carried-more c),
+        )
+    fits_after (Err _) _ e _ _ = subst (λ (v : ArrayVec Reserved). Fits (record { total = old.total; reserved = v })) (sym e) (b.within, b.carried)
 
 -- ## The latency
 
@@ -85,28 +110,31 @@ latency_small p q φ total count rate small least most enough few =
         let t : p * (count - 1) ≤ 1024 * 7 = mul-le-mul {n₂ = 1024} {m₂ = 7} (omega arith) (omega arith) in
         omega arith
 
-module _ (s : Shares) (few : s.count ≤ 8) (within : sum s.count (quantum_in s) ≤ s.total) (carried : (k : ℕ) → k < s.count → Carried s k) where
+module _ (b : RingBooking) where
+  abbrev s : Shares
+  s = b.shares
+
   -- a quantum is within its range and within the total
-  pub quantum_ranged : (k : ℕ) → k < s.count → (16 ≤ quantum_in s k) × (quantum_in s k ≤ 1024) × (quantum_in s k ≤ s.total)
+  quantum_ranged : (k : ℕ) → k < count_in s → (16 ≤ quantum_in s k) × (quantum_in s k ≤ 1024) × (quantum_in s k ≤ s.total)
   quantum_ranged k l =
-      let a = and_parts (leb 16 (quantum_in s k)) (leb (quantum_in s k) 1024) (carried k l).1 in
-      (leb-true 16 (quantum_in s k) a.0, leb-true (quantum_in s k) 1024 a.1, omega (arith, others_split s.count k (quantum_in s) l, within))
+      let a = and_parts (leb 16 (quantum_in s k)) (leb (quantum_in s k) 1024) (b.carried k l).1 in
+      (leb-true 16 (quantum_in s k) a.0, leb-true (quantum_in s k) 1024 a.1, omega (arith, others_split (count_in s) k (quantum_in s) l, b.within))
 
-  rate-carried : (k : ℕ) → k < s.count → (rate_in s k).p * s.total ≤ quantum_in s k * (rate_in s k).q
-  rate-carried k l = leb-true ((rate_in s k).p * s.total) (quantum_in s k * (rate_in s k).q) (carried k l).2
+  rate-carried : (k : ℕ) → k < count_in s → (rate_in s k).p * s.total ≤ quantum_in s k * (rate_in s k).q
+  rate-carried k l = leb-true ((rate_in s k).p * s.total) (quantum_in s k * (rate_in s k).q) (b.carried k l).2
 
-  pub latency_most : (k : ℕ) → k < s.count → (terms_in s k).latency ≤ 4194304
-  latency_most k l =
-      let r = rate_ranged (rate_in s k) (carried k l).0 in
+  latency_most : count_in s ≤ 8 → (k : ℕ) → k < count_in s → (terms_in s k).latency ≤ 4194304
+  latency_most few k l =
+      let r = rate_ranged (rate_in s k) (b.carried k l).0 in
       let q = quantum_ranged k l in
-      latency_small (rate_in s k).p (rate_in s k).q (quantum_in s k) s.total s.count r.1 r.2 q.0 q.1 (rate-carried k l) few
+      latency_small (rate_in s k).p (rate_in s k).q (quantum_in s k) s.total (count_in s) r.1 r.2 q.0 q.1 (rate-carried k l) few
 
   -- so no reserved client is turned away for its latency
-  terms-ok : (k : ℕ) → k < s.count → terms_ok (terms_in s k) ≡ true
-  terms-ok k l =
-      let r = rate_ranged (rate_in s k) (carried k l).0 in
-      ranged_terms (terms_in s k) (carried k l).0
-      (omega (arith, r.1)) (latency_most k l)
+  terms-ok : count_in s ≤ 8 → (k : ℕ) → k < count_in s → terms_ok (terms_in s k) ≡ true
+  terms-ok few k l =
+      let r = rate_ranged (rate_in s k) (b.carried k l).0 in
+      ranged_terms (terms_in s k) (b.carried k l).0
+      (omega (arith, r.1)) (latency_most few k l)
 
   -- ## Opening
 
@@ -114,12 +142,16 @@ module _ (s : Shares) (few : s.count ≤ 8) (within : sum s.count (quantum_in s)
   none_first = let f : (ℕ → Client) → Meaning = λ xs. record { count = 0; now = 0; client = xs } in
       ap f (fun_ext (λ k. ap (λ (b : Bool). new_client (cond {A = Terms} b (terms_in s k) vacant)) (sym (le-ltb k 0 (omega arith)))))
 
-  pub next_first : (n : ℕ) → n < s.count → admitted (first_clients s n) (terms_in s n) ≡ first_clients s (n + 1)
-  next_first n l =
+  admits_first : count_in s ≤ 8 → (n : ℕ) → n < count_in s → admits (first_clients s n) (terms_in s n) ≡ true
+  admits_first few n l = ap (λ (b : Bool). b && terms_ok (terms_in s n)) (lt-ltb n 8 (omega (arith, few))) ∙ terms-ok few n l
+
+  admission_first : count_in s ≤ 8 → (n : ℕ) → n < count_in s → admission (first_clients s n) (terms_in s n) ≡ Ok tt
+  admission_first few n l = ap (λ (b : Bool). cond {A = Result (Unit {0}) NotAdmitted} b (Ok tt) (Err record {})) (admits_first few n l)
+
+  next_first : count_in s ≤ 8 → (n : ℕ) → n < count_in s → admitted (first_clients s n) (terms_in s n) ≡ first_clients s (n + 1)
+  next_first few n l =
       let f : (ℕ → Client) → Meaning = λ xs. record { count = n + 1; now = 0; client = xs } in
-      let room : admits (first_clients s n) (terms_in s n) ≡ true =
-      ap (λ (b : Bool). b && terms_ok (terms_in s n)) (lt-ltb n 8 (omega (arith, few))) ∙ terms-ok n l in
-      ap (λ (b : Bool). cond {A = Meaning} b (record { count = n + 1; now = 0; client = at n (λ _. new_client (terms_in s n)) (first_clients s n).client }) (first_clients s n)) room
+      ap (λ (b : Bool). cond {A = Meaning} b (record { count = n + 1; now = 0; client = at n (λ _. new_client (terms_in s n)) (first_clients s n).client }) (first_clients s n)) (admits_first few n l)
       ∙ ap f (fun_ext place)
     where
       place : (k : ℕ) → at n (λ _. new_client (terms_in s n)) (first_clients s n).client k ≡ (first_clients s (n + 1)).client k
@@ -137,27 +169,73 @@ module _ (s : Shares) (few : s.count ≤ 8) (within : sum s.count (quantum_in s)
           same : k ≢ n → ltb k n ≡ ltb k (n + 1)
           same n' = ⊎_elim (λ (l : k < n). lt-ltb k n l ∙ sym (lt-ltb k (n + 1) (omega arith))) (λ g. le-ltb k n g ∙ sym (le-ltb k (n + 1) (omega (arith, g, n')))) (cases_lt k n)
 
-  pub unused_first : Unused (first_clients s s.count)
+  -- the share that comes in next, as a loop over the reserved finds it
+  module _ (xs : List Reserved) (list : (xs ≡ s.reserved.items) × (length xs ≤ 8)) (n : ℕ) (l : n < length xs) where
+    abbrev next : Reserved
+    next = get_or xs n no_share
+
+    low : n < count_in s
+    low = omega (arith, l, ap (λ (ys : List Reserved). length ys) list.0)
+
+    few : count_in s ≤ 8
+    few = omega (arith, list.1, ap (λ (ys : List Reserved). length ys) list.0)
+
+    next-is : next ≡ share_in s n
+    next-is = ap (λ (ys : List Reserved). get_or ys n no_share) list.0
+
+    pub next_ranged : (16 ≤ next.quantum) × (next.quantum ≤ s.total)
+    next_ranged = let q = quantum_ranged n low in subst (λ (y : Reserved). (16 ≤ y.quantum) × (y.quantum ≤ s.total)) (sym next-is) (q.0, q.2)
+
+    -- with the latency that the code makes of it
+    module _ (θ latency : ℕ) (e : θ ≡ theta (count_in s) s.total next.quantum) (f : latency ≡ latency_for next.rate.p next.rate.q θ) where
+      abbrev terms : Terms
+      terms = record { rate = next.rate; latency = latency }
+
+      terms-are : terms ≡ terms_in s n
+      terms-are =
+          let made : ℕ → Terms = λ late. record { rate = next.rate; latency = late } in
+          let late : Reserved → Terms = λ y. record { rate = y.rate; latency = latency_for y.rate.p y.rate.q (theta (count_in s) s.total y.quantum) } in
+          ap made (f ∙ ap (latency_for next.rate.p next.rate.q) e) ∙ ap late next-is
+
+      pub next_late : latency ≤ 4194304
+      next_late = omega (arith, ap (λ (t : Terms). t.latency) terms-are, latency_most few n low)
+
+      -- it is granted, and the table has it then
+      pub next_in : (m : Meaning) → m ≡ first_clients s n → (admission m terms ≡ Ok tt) × (admitted m terms ≡ first_clients s (n + 1))
+      next_in m h = (
+        ap (λ (y : Meaning). admission y terms) h ∙ ap (admission (first_clients s n)) terms-are ∙ admission_first few n low,
+        ap (λ (y : Meaning). admitted y terms) h ∙ ap (admitted (first_clients s n)) terms-are ∙ next_first few n low,
+      )
+
+  pub unused_first : Unused (first_clients s (count_in s))
   unused_first = record { start = refl; clocks = λ k l. refl; empty = λ k l. refl }
 
   -- the ring as it opens
   abbrev m₀ : Meaning
-  m₀ = first_clients s s.count
+  m₀ = first_clients s (count_in s)
 
   abbrev r₀ : Ring
   r₀ = fresh_ring s
 
-  each_first : (k : ℕ) → k < s.count → Share s.count s.total (quantum_in s k) (deficit_of r₀ k) false (m₀.client k)
+  place-first : (k : ℕ) → place_of r₀ k ≡ fresh_place (share_in s k)
+  place-first k = get_or-map fresh_place s.reserved.items k no_share
+
+  quantum-first : (k : ℕ) → quantum_of r₀ k ≡ quantum_in s k
+  quantum-first k = ap (λ (p : Place). p.quantum) (place-first k)
+
+  pub within_first : sum (count_in s) (quantum_of r₀) ≤ s.total
+  within_first = omega (arith, b.within, sum_le (count_in s) (quantum_of r₀) (quantum_in s) (λ k l. omega (arith, quantum-first k)))
+
+  each_first : (k : ℕ) → k < count_in s → Share (count_in s) s.total (quantum_of r₀ k) (deficit_of r₀ k) false (m₀.client k)
   each_first k l =
       let q = quantum_ranged k l in
-      let d : 0 ≡ deficit_of r₀ k = sym (get_or-replicate 8 k 0 0 (omega (arith, few))) in
       let y : new_client (terms_in s k) ≡ m₀.client k =
-      ap (λ (b : Bool). new_client (cond {A = Terms} b (terms_in s k) vacant)) (sym (lt-ltb k s.count l)) in
-      subst (λ (x : Client). Share s.count s.total (quantum_in s k) (deficit_of r₀ k) false x) y
-      (subst (λ (n : ℕ). Share s.count s.total (quantum_in s k) n false (new_client (terms_in s k))) d
-      (share_new s.count s.total (quantum_in s k) (terms_in s k) q.0 q.1 (rate-carried k l) refl))
+      ap (λ (b : Bool). new_client (cond {A = Terms} b (terms_in s k) vacant)) (sym (lt-ltb k (count_in s) l)) in
+      subst (λ (x : Client). Share (count_in s) s.total (quantum_of r₀ k) (deficit_of r₀ k) false x) y
+      (subst (λ (p : Place). Share (count_in s) s.total p.quantum p.deficit false (new_client (terms_in s k))) (sym (place-first k))
+      (share_new (count_in s) s.total (quantum_in s k) (terms_in s k) q.0 q.1 (rate-carried k l) refl))
 
-  pub sound_first : Sound (first_clients s s.count) (fresh_ring s)
+  pub sound_first : Sound (first_clients s (count_in s)) (fresh_ring s)
   sound_first = record {
     within = λ z. omega arith;
     paced = record {
@@ -165,6 +243,6 @@ module _ (s : Shares) (few : s.count ≤ 8) (within : sum s.count (quantum_in s)
       there = λ z. absurd (clash z);
       own = λ z. absurd (clash z);
       seen = λ z. absurd (clash z);
-      bound = λ c l. resting m₀ r₀ c (gone_round s.count (s.count - 1) c) l each_first (λ z. absurd (clash z)) refl;
+      bound = λ c l. resting m₀ r₀ c (gone_round (count_in s) (count_in s - 1) c) l each_first (λ z. absurd (clash z)) refl;
     };
   }

@@ -7,7 +7,7 @@ use Rattle.clients.specs.Held.{reach, latency_for}
 use Rattle.ring.specs.declared.turns.Ring.{Ring}
 use Rattle.ring.specs.Sums.{others}
 use Rattle.ring.specs.Shares.{theta}
-use Rattle.ring.specs.Turns.{quantum_of, deficit_of}
+use Rattle.ring.specs.Turns.{quantum_of, deficit_of, stands_open, client_of}
 
 -- ## One client
 
@@ -50,7 +50,7 @@ pub record Within (p φ r spare t given reached gone own : ℕ) : Type 0 where
 
 -- whether client k's turn is open
 abbrev pub mine : Ring → ℕ → Bool
-mine r k = r.opened && k == r.turn
+mine r k = stands_open r.turn && k == client_of r.turn
 
 -- what client k may still give in its turn
 abbrev pub allowance : Meaning → Ring → ℕ → ℕ
@@ -69,7 +69,7 @@ Bounded m r gone c =
 -- `gone c j` marks the j that have no turn before c's next one
 pub record Paced (m : Meaning) (r : Ring) (gone : ℕ → ℕ → Bool) : Type 0 where
   pub each : (k : ℕ) → k < m.count → Share m.count r.total (quantum_of r k) (deficit_of r k) (mine r k) (m.client k)
-  pub there : r.opened ≡ true → r.turn < m.count
-  pub own : r.opened ≡ true → (j : ℕ) → j < m.count → j ≢ r.turn → gone r.turn j ≡ false
-  pub seen : r.opened ≡ true → (c : ℕ) → c < m.count → c ≢ r.turn → gone c r.turn ≡ true
+  pub there : stands_open r.turn ≡ true → client_of r.turn < m.count
+  pub own : stands_open r.turn ≡ true → (j : ℕ) → j < m.count → j ≢ client_of r.turn → gone (client_of r.turn) j ≡ false
+  pub seen : stands_open r.turn ≡ true → (c : ℕ) → c < m.count → c ≢ client_of r.turn → gone c (client_of r.turn) ≡ true
   pub bound : (c : ℕ) → c < m.count → Bounded m r (gone c) c

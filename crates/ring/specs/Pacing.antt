@@ -1,6 +1,7 @@
 -- A submission, a turn that opens and a unit that goes keep a ring's clients on time, whoever has had a turn before whom.
 use Rattle.std.specs.Prelude.{◌≡◌, ℕ, ◌+◌, ◌-◌, ◌*◌, ◌<◌, ◌≤◌, Bool, true, false, cond, ◌&&◌, ◌≢◌, List, length, ◌==◌, refl}
 use Rattle.std.proofs.Common.{sym, ap, subst, ◌∙◌, ⊎_elim, arith, eqb-true, eq-eqb, ne_eqb}
+use mathlib.Core.Path.{fun_ext}
 use Rattle.std.proofs.lemmas.List.{get_or-set_same, get_or-set_other}
 use Rattle.std.proofs.lemmas.Bool.{and_parts, cases_lt, cases_eq}
 use Rattle.server.specs.declared.block.Block.{Block}
@@ -11,29 +12,31 @@ use Rattle.server.proofs.Meanings.{at_elim, at_here, at_other}
 use Rattle.clients.specs.Held.{Kept, reach}
 use Rattle.clients.specs.Serving.{front_of}
 use Rattle.clients.proofs.Clients.{reach_entered, reach_ticked, reach_gone, reach_empty, laws_on_time}
+use Rattle.ring.specs.declared.turns.Place.{Place}
 use Rattle.ring.specs.declared.turns.Ring.{Ring}
 use Rattle.ring.specs.declared.turns.Rest.{Rest}
+use Rattle.ring.specs.declared.turns.Turn.TheVariants.{Open}
 use Rattle.ring.specs.Sums.{sum, others}
 use Rattle.ring.specs.Shares.{theta}
-use Rattle.ring.specs.Turns.{quantum_of, deficit_of, length_of, rest_of, turn_to}
+use Rattle.ring.specs.Turns.{no_place, place_of, quantum_of, deficit_of, stands_open, client_of, length_of, rest_of, turn_to}
 use Rattle.ring.specs.Paced.{allowance_in, Share, Within, mine, allowance, marked, Bounded, Paced}
 use Rattle.ring.specs.SumsLemmas.{by_test, others_le, others_at, others_split, others_const, others_add, others_none}
 use Rattle.ring.specs.Potential.{eased, other_gives, other_opens, own_gives, own_opens, on_time, at_rest, weigh_outside, weigh_inside, theta_late}
-use Rattle.ring.specs.Giving.{allowance_entered, share_entered, allowance_opened, share_opened, share_gave, allowance_less, allowance_just}
+use Rattle.ring.specs.Giving.{allowance_entered, share_entered, allowance_opened, share_opened, rest_client, share_gave, allowance_less, allowance_just}
 
 -- ## Whose turn is open
 
-mine_true : (r : Ring) (k : ℕ) → mine r k ≡ true → (r.opened ≡ true) × (k ≡ r.turn)
-mine_true r k e = let a = and_parts r.opened (k == r.turn) e in (a.0, eqb-true k r.turn a.1)
+mine_true : (r : Ring) (k : ℕ) → mine r k ≡ true → (stands_open r.turn ≡ true) × (k ≡ client_of r.turn)
+mine_true r k e = let a = and_parts (stands_open r.turn) (k == client_of r.turn) e in (a.0, eqb-true k (client_of r.turn) a.1)
 
-pub mine_yes : (r : Ring) (k : ℕ) → r.opened ≡ true → k ≡ r.turn → mine r k ≡ true
-mine_yes r k o e = ap (λ (b : Bool). b && k == r.turn) o ∙ eq-eqb k r.turn e
+pub mine_yes : (r : Ring) (k : ℕ) → stands_open r.turn ≡ true → k ≡ client_of r.turn → mine r k ≡ true
+mine_yes r k o e = ap (λ (b : Bool). b && k == client_of r.turn) o ∙ eq-eqb k (client_of r.turn) e
 
-mine_off : (r : Ring) (k : ℕ) → k ≢ r.turn → mine r k ≡ false
-mine_off r k n = by_test r.opened (λ b. (b && k == r.turn) ≡ false) (λ _. ne_eqb k r.turn n) (λ _. refl)
+mine_off : (r : Ring) (k : ℕ) → k ≢ client_of r.turn → mine r k ≡ false
+mine_off r k n = by_test (stands_open r.turn) (λ b. (b && k == client_of r.turn) ≡ false) (λ _. ne_eqb k (client_of r.turn) n) (λ _. refl)
 
-mine_closed : (r : Ring) (k : ℕ) → r.opened ≡ false → mine r k ≡ false
-mine_closed r k o = ap (λ (b : Bool). b && k == r.turn) o
+mine_closed : (r : Ring) (k : ℕ) → stands_open r.turn ≡ false → mine r k ≡ false
+mine_closed r k o = ap (λ (b : Bool). b && k == client_of r.turn) o
 
 -- what a client may still give, from its parts
 allowance_is : (m : Meaning) (r : Ring) (k : ℕ) (b : Bool) (d : ℕ) (bs : List Block) → mine r k ≡ b → deficit_of r k ≡ d → (m.client k).waiting ≡ bs → allowance m r k ≡ allowance_in b d bs
@@ -60,11 +63,20 @@ marked_more k c t g g' r l n a b h =
 
 -- ## One state
 
+-- a client's share and its potential, with the quanta apart from the ring
+abbrev EachShareBy : (ℕ → ℕ) → Meaning → Ring → Type 0
+EachShareBy q m r = (k : ℕ) → k < m.count → Share m.count r.total (q k) (deficit_of r k) (mine r k) (m.client k)
+
 abbrev EachShare : Meaning → Ring → Type 0
-EachShare m r = (k : ℕ) → k < m.count → Share m.count r.total (quantum_of r k) (deficit_of r k) (mine r k) (m.client k)
+EachShare m r = EachShareBy (quantum_of r) m r
+
+abbrev BoundedBy : (ℕ → ℕ) → Meaning → Ring → (ℕ → Bool) → ℕ → Type 0
+BoundedBy q m r gone c =
+    Within (m.client c).terms.rate.p (q c) (r.total - q c) (15 * (m.count - 1)) m.now
+    (others m.count c (allowance m r)) (reach m.now (m.client c)) (others m.count c (λ j. cond (gone j) (q j) 0)) (allowance m r c)
 
 -- the others may give no more than the quanta of those who have had their turn, and 15 units each
-spread : (m : Meaning) (r : Ring) (c : ℕ) (gone : ℕ → Bool) → c < m.count → EachShare m r → (r.opened ≡ true → c ≢ r.turn → gone r.turn ≡ true)
+spread : (m : Meaning) (r : Ring) (c : ℕ) (gone : ℕ → Bool) → c < m.count → EachShare m r → (stands_open r.turn ≡ true → c ≢ client_of r.turn → gone (client_of r.turn) ≡ true)
     → others m.count c (allowance m r) ≤ others m.count c (marked gone r) + 15 * (m.count - 1)
 spread m r c gone l each seen =
     omega (arith, others_le m.count c (allowance m r) (λ j. marked gone r j + 15) one, others_add m.count c (marked gone r) (λ j. 15), others_const m.count c 15 l)
@@ -81,7 +93,7 @@ spread m r c gone l each seen =
         (each j i)
 
 -- a client with nothing waiting keeps its potential
-pub resting : (m : Meaning) (r : Ring) (c : ℕ) (gone : ℕ → Bool) → c < m.count → EachShare m r → (r.opened ≡ true → c ≢ r.turn → gone r.turn ≡ true) → length (m.client c).waiting ≡ 0 → Bounded m r gone c
+pub resting : (m : Meaning) (r : Ring) (c : ℕ) (gone : ℕ → Bool) → c < m.count → EachShare m r → (stands_open r.turn ≡ true → c ≢ client_of r.turn → gone (client_of r.turn) ≡ true) → length (m.client c).waiting ≡ 0 → Bounded m r gone c
 resting m r c gone l each seen none = at_rest (reach_empty m.now (m.client c) none) (spread m r c gone l each seen)
 
 module _ (m : Meaning) (r : Ring) (gone : ℕ → ℕ → Bool) (fits : sum m.count (quantum_of r) ≤ r.total) (P : Paced m r gone) (c : ℕ) (l : c < m.count) where
@@ -97,7 +109,7 @@ module _ (m : Meaning) (r : Ring) (gone : ℕ → ℕ → Bool) (fits : sum m.co
   )
 
   -- while its turn is open nobody else has had one
-  gone-none : r.opened ≡ true → c ≡ r.turn → others m.count c (marked (gone c) r) ≡ 0
+  gone-none : stands_open r.turn ≡ true → c ≡ client_of r.turn → others m.count c (marked (gone c) r) ≡ 0
   gone-none o e = others_none m.count c (marked (gone c) r)
       (λ j i n.
       let g : gone c j ≡ false = subst (λ (t : ℕ). gone t j ≡ false) (sym e) (P.own o j i (λ z. n (z ∙ sym e))) in
@@ -106,8 +118,8 @@ module _ (m : Meaning) (r : Ring) (gone : ℕ → ℕ → Bool) (fits : sum m.co
 -- ## A block comes in
 
 module _ (m : Meaning) (r : Ring) (gone gone' : ℕ → ℕ → Bool) (P : Paced m r gone) (a label len : ℕ)
-    (own' : r.opened ≡ true → (j : ℕ) → j < m.count → j ≢ r.turn → gone' r.turn j ≡ false)
-    (seen' : r.opened ≡ true → (c : ℕ) → c < m.count → c ≢ r.turn → gone' c r.turn ≡ true)
+    (own' : stands_open r.turn ≡ true → (j : ℕ) → j < m.count → j ≢ client_of r.turn → gone' (client_of r.turn) j ≡ false)
+    (seen' : stands_open r.turn ≡ true → (c : ℕ) → c < m.count → c ≢ client_of r.turn → gone' c (client_of r.turn) ≡ true)
     (grows : (c : ℕ) → c < m.count → 0 < length (m.client c).waiting → (j : ℕ) → j < m.count → j ≢ c → gone c j ≡ true → gone' c j ≡ true) where
   abbrev came : Meaning
   came = record { count = m.count; now = m.now; client = at a (entered m.now label len) m.client }
@@ -171,32 +183,51 @@ share_is : {count total φ d d' : ℕ} {b b' : Bool} {x : Client} → d ≡ d' �
 share_is {count} {total} {φ} {d} {d'} {b} {b'} {x} e f h =
     subst (λ (n : ℕ). Share count total φ n b' x) e (subst (λ (c : Bool). Share count total φ d c x) f h)
 
-mine_turn : (r : Ring) → mine r r.turn ≡ r.opened
-mine_turn r = by_test r.opened (λ b. (b && r.turn == r.turn) ≡ b) (λ _. eq-eqb r.turn r.turn refl) (λ _. refl)
+mine_turn : (r : Ring) → mine r (client_of r.turn) ≡ stands_open r.turn
+mine_turn r = by_test (stands_open r.turn) (λ b. (b && (client_of r.turn) == client_of r.turn) ≡ b) (λ _. eq-eqb (client_of r.turn) (client_of r.turn) refl) (λ _. refl)
 
 module _ (r : Ring) (t : ℕ) (x : Rest) where
-  pub deficit_here : t < length r.deficits → deficit_of (turn_to r t x) t ≡ x.deficit
-  deficit_here l = get_or-set_same r.deficits t x.deficit 0 l
+  abbrev moved : Place
+  moved = record { quantum = quantum_of r t; deficit = x.deficit }
+
+  place-here : t < length r.places.items → place_of (turn_to r t x) t ≡ moved
+  place-here l = get_or-set_same r.places.items t moved no_place l
+
+  place-there : (k : ℕ) → k ≢ t → place_of (turn_to r t x) k ≡ place_of r k
+  place-there k n = get_or-set_other r.places.items t k moved no_place n
+
+  pub deficit_here : t < length r.places.items → deficit_of (turn_to r t x) t ≡ x.deficit
+  deficit_here l = ap (λ (p : Place). p.deficit) (place-here l)
 
   deficit-there : (k : ℕ) → k ≢ t → deficit_of (turn_to r t x) k ≡ deficit_of r k
-  deficit-there k n = get_or-set_other r.deficits t k x.deficit 0 n
+  deficit-there k n = ap (λ (p : Place). p.deficit) (place-there k n)
+
+  -- the quanta stay
+  pub quanta_kept : t < length r.places.items → quantum_of (turn_to r t x) ≡ quantum_of r
+  quanta_kept l = fun_ext (λ k. ⊎_elim
+      (λ (e : k ≡ t). subst (λ (j : ℕ). quantum_of (turn_to r t x) j ≡ quantum_of r j) (sym e) (ap (λ (p : Place). p.quantum) (place-here l)))
+      (λ n. ap (λ (p : Place). p.quantum) (place-there k n))
+      (cases_eq k t))
 
 -- ## A turn opens
 
-module _ (m : Meaning) (r : Ring) (gone gone' : ℕ → ℕ → Bool) (kept : Kept m) (full : length r.deficits ≡ 8) (fits : sum m.count (quantum_of r) ≤ r.total) (P : Paced m r gone)
-    (t : ℕ) (closed : r.opened ≡ false) (l : t < m.count) (some : 0 < length (m.client t).waiting)
+module _ (m : Meaning) (r : Ring) (gone gone' : ℕ → ℕ → Bool) (kept : Kept m) (full : length r.places.items ≡ m.count) (fits : sum m.count (quantum_of r) ≤ r.total) (P : Paced m r gone)
+    (t : ℕ) (closed : stands_open r.turn ≡ false) (l : t < m.count) (some : 0 < length (m.client t).waiting)
     (own' : (j : ℕ) → j < m.count → j ≢ t → gone' t j ≡ false)
     (seen' : (c : ℕ) → c < m.count → c ≢ t → gone' c t ≡ true)
     (fresh : (c : ℕ) → c < m.count → c ≢ t → 0 < length (m.client c).waiting → gone c t ≡ false)
     (grows : (c : ℕ) → c < m.count → c ≢ t → 0 < length (m.client c).waiting → (j : ℕ) → j < m.count → j ≢ c → gone c j ≡ true → gone' c j ≡ true) where
   abbrev begun : Rest
-  begun = record { deficit = deficit_of r t + quantum_of r t - length_of (front_of (m.client t).waiting); opened = true }
+  begun = record { deficit = deficit_of r t + quantum_of r t - length_of (front_of (m.client t).waiting); turn = Open t }
 
   abbrev opened : Ring
   opened = turn_to r t begun
 
   here : deficit_of opened t ≡ begun.deficit
-  here = deficit_here r t begun (omega (arith, kept.eight, full))
+  here = deficit_here r t begun (omega (arith, full))
+
+  same-quanta : quantum_of opened ≡ quantum_of r
+  same-quanta = quanta_kept r t begun (omega (arith, full))
 
   was : (k : ℕ) → k < m.count → Share m.count r.total (quantum_of r k) (deficit_of r k) false (m.client k)
   was k i = share_is refl (mine_closed r k closed) (P.each k i)
@@ -213,21 +244,23 @@ module _ (m : Meaning) (r : Ring) (gone gone' : ℕ → ℕ → Bool) (kept : Ke
   allowance-there k n = allowance_is m opened k false (deficit_of r k) (m.client k).waiting (mine_off opened k n) (deficit-there r t begun k n) refl ∙ sym (allowance-was k)
 
   each-opened : EachShare m opened
-  each-opened k i = ⊎_elim
+  each-opened = subst (λ (q : ℕ → ℕ). EachShareBy q m opened) (sym same-quanta) (λ k i. ⊎_elim
       (λ (e : k ≡ t). subst (λ (j : ℕ). Share m.count r.total (quantum_of r j) (deficit_of opened j) (mine opened j) (m.client j)) (sym e)
       (share_is (sym here) (sym (mine_turn opened)) (share_opened (kept.each t l) (was t l) some)))
       (λ n. share_is (sym (deficit-there r t begun k n)) (sym (mine_off opened k n)) (was k i))
-      (cases_eq k t)
+      (cases_eq k t))
 
   own-bound : Bounded m opened (gone' t) t
-  own-bound = own_opens (P.bound t l) (gone-few m r gone fits P t l) (omega (arith, allowance-here)) (others_le m.count t (allowance m opened) (allowance m r) (λ j i n. omega (arith, allowance-there j n)))
+  own-bound = subst (λ (q : ℕ → ℕ). BoundedBy q m opened (gone' t) t) (sym same-quanta)
+      (own_opens (P.bound t l) (gone-few m r gone fits P t l) (omega (arith, allowance-here)) (others_le m.count t (allowance m opened) (allowance m r) (λ j i n. omega (arith, allowance-there j n))))
 
   other-bound : (c : ℕ) → c < m.count → c ≢ t → 0 < length (m.client c).waiting → Bounded m opened (gone' c) c
   other-bound c i n w =
       let n' : t ≢ c = λ z. n (sym z) in
       let a : others m.count c (allowance m opened) + 0 ≤ others m.count c (allowance m r) + quantum_of r t =
       others_at m.count c (allowance m r) (allowance m opened) t 0 (quantum_of r t) l n' (omega (arith, allowance-here)) (λ j _ _ o. omega (arith, allowance-there j o)) in
-      other_opens (P.bound c i) (quantum_of r t) (omega (arith, a)) (marked_more m.count c t (gone c) (gone' c) r l n' (fresh c i n w) (seen' c i n) (grows c i n w)) (omega (arith, allowance-there c n))
+      subst (λ (q : ℕ → ℕ). BoundedBy q m opened (gone' c) c) (sym same-quanta)
+      (other_opens (P.bound c i) (quantum_of r t) (omega (arith, a)) (marked_more m.count c t (gone c) (gone' c) r l n' (fresh c i n w) (seen' c i n) (grows c i n w)) (omega (arith, allowance-there c n)))
 
   pub paced_opened : Paced m opened gone'
   paced_opened = record {
@@ -246,16 +279,16 @@ module _ (m : Meaning) (r : Ring) (gone gone' : ℕ → ℕ → Bool) (kept : Ke
 
 -- ## A unit goes
 
-module _ (m : Meaning) (r : Ring) (gone gone' : ℕ → ℕ → Bool) (kept : Kept m) (full : length r.deficits ≡ 8) (fits : sum m.count (quantum_of r) ≤ r.total) (P : Paced m r gone)
-    (opened : r.opened ≡ true)
-    (own' : (rest_of (deficit_of r r.turn) (m.client r.turn).waiting).opened ≡ true → (j : ℕ) → j < m.count → j ≢ r.turn → gone' r.turn j ≡ false)
-    (seen' : (rest_of (deficit_of r r.turn) (m.client r.turn).waiting).opened ≡ true → (c : ℕ) → c < m.count → c ≢ r.turn → gone' c r.turn ≡ true)
-    (grows : (c : ℕ) → c < m.count → c ≢ r.turn → 0 < length (m.client c).waiting → (j : ℕ) → j < m.count → j ≢ c → gone c j ≡ true → gone' c j ≡ true) where
+module _ (m : Meaning) (r : Ring) (gone gone' : ℕ → ℕ → Bool) (kept : Kept m) (full : length r.places.items ≡ m.count) (fits : sum m.count (quantum_of r) ≤ r.total) (P : Paced m r gone)
+    (opened : stands_open r.turn ≡ true)
+    (own' : stands_open (rest_of (client_of r.turn) (deficit_of r (client_of r.turn)) (m.client (client_of r.turn)).waiting).turn ≡ true → (j : ℕ) → j < m.count → j ≢ client_of r.turn → gone' (client_of r.turn) j ≡ false)
+    (seen' : stands_open (rest_of (client_of r.turn) (deficit_of r (client_of r.turn)) (m.client (client_of r.turn)).waiting).turn ≡ true → (c : ℕ) → c < m.count → c ≢ client_of r.turn → gone' c (client_of r.turn) ≡ true)
+    (grows : (c : ℕ) → c < m.count → c ≢ client_of r.turn → 0 < length (m.client c).waiting → (j : ℕ) → j < m.count → j ≢ c → gone c j ≡ true → gone' c j ≡ true) where
   abbrev t : ℕ
-  t = r.turn
+  t = client_of r.turn
 
   abbrev rest : Rest
-  rest = rest_of (deficit_of r t) (m.client t).waiting
+  rest = rest_of t (deficit_of r t) (m.client t).waiting
 
   abbrev gave : Ring
   gave = turn_to r t rest
@@ -267,7 +300,22 @@ module _ (m : Meaning) (r : Ring) (gone gone' : ℕ → ℕ → Bool) (kept : Ke
   l = P.there opened
 
   gave-here : deficit_of gave t ≡ rest.deficit
-  gave-here = deficit_here r t rest (omega (arith, kept.eight, full, l))
+  gave-here = deficit_here r t rest (omega (arith, full, l))
+
+  gave-turn : client_of gave.turn ≡ t
+  gave-turn = rest_client t (deficit_of r t) (m.client t).waiting
+
+  mine-gave : mine gave t ≡ stands_open rest.turn
+  mine-gave = subst (λ (k : ℕ). mine gave k ≡ stands_open rest.turn) gave-turn (mine_turn gave)
+
+  mine-kept : (k : ℕ) → k ≢ t → mine gave k ≡ false
+  mine-kept k n = mine_off gave k (λ z. n (z ∙ gave-turn))
+
+  seen-gave : stands_open gave.turn ≡ true → (c : ℕ) → c < m.count → c ≢ client_of gave.turn → gone' c (client_of gave.turn) ≡ true
+  seen-gave = subst (λ (k : ℕ). stands_open rest.turn ≡ true → (c : ℕ) → c < m.count → c ≢ k → gone' c k ≡ true) (sym gave-turn) seen'
+
+  gave-quanta : quantum_of gave ≡ quantum_of r
+  gave-quanta = quanta_kept r t rest (omega (arith, full, l))
 
   is_open : Share m.count r.total (quantum_of r t) (deficit_of r t) true (m.client t)
   is_open = share_is refl (mine_yes r t opened refl) (P.each t l)
@@ -278,19 +326,19 @@ module _ (m : Meaning) (r : Ring) (gone gone' : ℕ → ℕ → Bool) (kept : Ke
   allowance-open : allowance m r t ≡ allowance_in true (deficit_of r t) (m.client t).waiting
   allowance-open = allowance_is m r t true (deficit_of r t) (m.client t).waiting (mine_yes r t opened refl) refl refl
 
-  allowance-gave : allowance after gave t ≡ allowance_in rest.opened rest.deficit (served (m.client t).waiting)
-  allowance-gave = allowance_is after gave t rest.opened rest.deficit (served (m.client t).waiting) (mine_turn gave) gave-here (ap (λ (x : Client). x.waiting) (at_here t serve m.client))
+  allowance-gave : allowance after gave t ≡ allowance_in (stands_open rest.turn) rest.deficit (served (m.client t).waiting)
+  allowance-gave = allowance_is after gave t (stands_open rest.turn) rest.deficit (served (m.client t).waiting) mine-gave gave-here (ap (λ (x : Client). x.waiting) (at_here t serve m.client))
 
   allowance-kept : (k : ℕ) → k ≢ t → allowance after gave k ≡ allowance m r k
   allowance-kept k n =
-      allowance_is after gave k false (deficit_of r k) (m.client k).waiting (mine_off gave k n) (deficit-there r t rest k n) (ap (λ (x : Client). x.waiting) (at_other t k serve m.client n))
+      allowance_is after gave k false (deficit_of r k) (m.client k).waiting (mine-kept k n) (deficit-there r t rest k n) (ap (λ (x : Client). x.waiting) (at_other t k serve m.client n))
       ∙ sym (allowance_is m r k false (deficit_of r k) (m.client k).waiting (mine_off r k n) refl refl)
 
   each_gave : EachShare after gave
-  each_gave k i = at_elim (Share m.count r.total (quantum_of r k) (deficit_of gave k) (mine gave k)) t k serve m.client
+  each_gave = subst (λ (q : ℕ → ℕ). EachShareBy q after gave) (sym gave-quanta) (λ k i. at_elim (Share m.count r.total (quantum_of r k) (deficit_of gave k) (mine gave k)) t k serve m.client
       (λ e. subst (λ (j : ℕ). Share m.count r.total (quantum_of r j) (deficit_of gave j) (mine gave j) (serve (m.client j))) (sym e)
-      (share_is (sym gave-here) (sym (mine_turn gave)) (share_gave (kept.each t l) is_open)))
-      (λ n. share_is (sym (deficit-there r t rest k n)) (sym (mine_off gave k n)) (was-closed k i n))
+      (share_is (sym gave-here) (sym mine-gave) (share_gave t (kept.each t l) is_open)))
+      (λ n. share_is (sym (deficit-there r t rest k n)) (sym (mine-kept k n)) (was-closed k i n)))
 
   abbrev Holds : ℕ → Client → Type 0
   Holds c x =
@@ -304,7 +352,7 @@ module _ (m : Meaning) (r : Ring) (gone gone' : ℕ → ℕ → Bool) (kept : Ke
       own_gives (P.bound t l) x.terms.rate.q
       (omega (arith, ap (λ (n : ℕ). x.terms.rate.p * n) rest-of, is_open.enough))
       (gone-none m r gone fits P t l opened refl)
-      (omega (arith, allowance-open, allowance-gave, allowance_just (kept.each t l) is_open w))
+      (omega (arith, allowance-open, allowance-gave, allowance_just t (kept.each t l) is_open w))
       (others_le m.count t (allowance after gave) (allowance m r) (λ j _ n. omega (arith, allowance-kept j n)))
       (reach_gone m.now x (is_open.inside refl).0 (kept.each t l))
 
@@ -314,7 +362,7 @@ module _ (m : Meaning) (r : Ring) (gone gone' : ℕ → ℕ → Bool) (kept : Ke
       let x = m.client c in
       let a : others m.count c (allowance after gave) + 1 ≤ others m.count c (allowance m r) + 0 =
       others_at m.count c (allowance m r) (allowance after gave) t 1 0 l n'
-      (omega (arith, allowance-open, allowance-gave, allowance_less (kept.each t l) is_open))
+      (omega (arith, allowance-open, allowance-gave, allowance_less t (kept.each t l) is_open))
       (λ j _ _ o. omega (arith, allowance-kept j o)) in
       other_gives (P.bound c i) (omega (arith, a)) (reach_ticked m.now x) (marked_all m.count c (gone c) (gone' c) r (grows c i n w)) (omega (arith, allowance-kept c n))
 
@@ -326,12 +374,12 @@ module _ (m : Meaning) (r : Ring) (gone gone' : ℕ → ℕ → Bool) (kept : Ke
   pub paced_gave : Paced after gave gone'
   paced_gave = record {
     each = each_gave;
-    there = λ _. l;
-    own = own';
-    seen = seen';
+    there = λ _. subst (λ (k : ℕ). k < m.count) (sym gave-turn) l;
+    own = subst (λ (k : ℕ). stands_open rest.turn ≡ true → (j : ℕ) → j < m.count → j ≢ k → gone' k j ≡ false) (sym gave-turn) own';
+    seen = seen-gave;
     bound = λ c i. ⊎_elim
-        (waiting-holds c i)
-        (λ none. resting after gave c (gone' c) i each_gave (λ o n. seen' o c i n) (omega (arith, none)))
+        (λ w. subst (λ (q : ℕ → ℕ). BoundedBy q after gave (gone' c) c) (sym gave-quanta) (waiting-holds c i w))
+        (λ none. resting after gave c (gone' c) i each_gave (λ o n. seen-gave o c i n) (omega (arith, none)))
         (cases_lt 0 (length (after.client c).waiting));
   }
 

@@ -2,6 +2,7 @@
 use Rattle.std.specs.Prelude.{ℕ, ◌+◌, ◌-◌, ◌<◌, Bool, cond, nat_le, nat_lt}
 use Rattle.server.specs.Meaning.{Meaning}
 use Rattle.ring.specs.declared.turns.Ring.{Ring}
+use Rattle.ring.specs.Turns.{client_of}
 use Rattle.ring.specs.Paced.{Paced}
 
 -- how many clients the search passes before it comes to j, from the one after t on
@@ -14,5 +15,5 @@ gone_round count t c j = nat_le (ahead count t c) (ahead count t j)
 
 -- a ring whose turns go round
 pub record Sound (m : Meaning) (r : Ring) : Type 0 where
-  pub within : 0 < m.count → r.turn < m.count
-  pub paced : Paced m r (gone_round m.count r.turn)
+  pub within : 0 < m.count → client_of r.turn < m.count
+  pub paced : Paced m r (gone_round m.count (client_of r.turn))

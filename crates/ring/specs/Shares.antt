@@ -1,18 +1,31 @@
 -- What is reserved in a ring, and how late a share of it can make a client. Assumes nothing.
-use Rattle.std.specs.Prelude.{◌≡◌, ℕ, ◌+◌, ◌-◌, ◌*◌, ◌/◌, Bool, true, ◌&&◌, nat_le, nat_lt, slice_index, slice_index_or}
+use Rattle.std.specs.Prelude.{◌≡◌, ℕ, ◌+◌, ◌-◌, ◌*◌, ◌/◌, Bool, true, ◌&&◌, length, nat_le, nat_lt, slice_index_or}
 use Rattle.server.specs.declared.rate.Rate.{Rate}
 use Rattle.server.specs.declared.rate.Terms.{Terms}
 use Rattle.clients.specs.Held.{latency_for}
 use Rattle.clients.specs.Serving.{rate_ok}
+use Rattle.ring.specs.declared.shares.Share.{Share}
 use Rattle.ring.specs.declared.shares.Shares.{Shares}
 use Rattle.ring.specs.Sums.{sum}
 
+-- the number of clients reserved so far
+abbrev pub count_in : Shares → ℕ
+count_in s = length s.reserved.items
+
+-- what nobody reserved
+abbrev pub no_share : Share
+no_share = record { rate = record { p = 0; q = 0 }; quantum = 0 }
+
+-- what the client at place k reserved
+abbrev pub share_in : Shares → ℕ → Share
+share_in s k = slice_index_or s.reserved.items k no_share
+
 -- the rate and the quantum at place k
 abbrev pub rate_in : Shares → ℕ → Rate
-rate_in s k = slice_index_or s.rates k (record { p = 0; q = 0 })
+rate_in s k = (share_in s k).rate
 
 abbrev pub quantum_in : Shares → ℕ → ℕ
-quantum_in s k = slice_index s.quanta k
+quantum_in s k = (share_in s k).quantum
 
 -- ## Ranges
 
@@ -30,7 +43,7 @@ carries total x quantum = nat_le (x.p * total) (quantum * x.q)
 
 -- whether there is room for one more client with this quantum
 abbrev pub room : Shares → ℕ → Bool
-room s quantum = nat_lt s.count 8 && nat_le (sum s.count (quantum_in s) + quantum) s.total
+room s quantum = nat_lt (count_in s) 8 && nat_le (sum (count_in s) (quantum_in s) + quantum) s.total
 
 -- what is reserved at place k is within its ranges, and the quantum carries the rate
 abbrev pub Carried : Shares → ℕ → Type 0
@@ -44,4 +57,4 @@ theta count total quantum = ((total - quantum) * (quantum + 15) + (quantum - 1))
 
 -- the terms of the client at place k, with the latency that all the reserved clients make
 abbrev pub terms_in : Shares → ℕ → Terms
-terms_in s k = record { rate = rate_in s k; latency = latency_for (rate_in s k).p (rate_in s k).q (theta s.count s.total (quantum_in s k)) }
+terms_in s k = record { rate = rate_in s k; latency = latency_for (rate_in s k).p (rate_in s k).q (theta (count_in s) s.total (quantum_in s k)) }

@@ -1,19 +1,22 @@
 -- The ring's booking and server as functions of their state. Assumes nothing.
-use Rattle.std.specs.Prelude.{ℕ, ◌+◌, ◌-◌, false, cond, ◌&&◌, replicate, Ok, Err, Result, nat_lt, slice_set}
+use Rattle.std.specs.Prelude.{ℕ, ◌-◌, cond, ◌&&◌, [], ◌∷◌, ◌++◌, map, Ok, Err, Result, nat_lt}
 use Rattle.server.specs.declared.rate.Rate.{Rate}
 use Rattle.server.specs.Meaning.{Meaning}
 use Rattle.server.specs.Calls.{submitted}
 use Rattle.server.specs.Machine.{Machine}
 use Rattle.clients.specs.declared.booking.BookingRefusal.{BookingRefusal}
-use Rattle.clients.specs.declared.booking.BookingRefusal.TheVariants.{Reserved, Rate as BadRate, Range, Share, Over}
+use Rattle.clients.specs.declared.booking.BookingRefusal.TheVariants.{Reserved, Rate as BadRate, Range, Share as SmallShare, Over}
 use Rattle.clients.specs.Meant.{meaning}
-use Rattle.clients.specs.View.{vacant}
-use Rattle.clients.specs.Serving.{new_client, rate_ok, slot_says, slot_leaves}
+use Rattle.clients.specs.View.{vacant, new_client}
+use Rattle.clients.specs.Serving.{rate_ok, slot_says, slot_leaves}
+use Rattle.ring.specs.declared.shares.Share.{Share}
 use Rattle.ring.specs.declared.shares.Shares.{Shares}
+use Rattle.ring.specs.declared.turns.Place.{Place}
 use Rattle.ring.specs.declared.turns.Ring.{Ring}
+use Rattle.ring.specs.declared.turns.Turn.TheVariants.{Closed}
 use Rattle.ring.specs.declared.booking.RingBooking.{RingBooking}
 use Rattle.ring.specs.declared.ring_server.RingServer.{RingServer}
-use Rattle.ring.specs.Shares.{total_ok, quantum_ok, carries, room, terms_in}
+use Rattle.ring.specs.Shares.{total_ok, quantum_ok, carries, room, count_in, terms_in}
 use Rattle.ring.specs.Turns.{turn_in, ring_after}
 
 -- the clients, and the ring with its turn
@@ -34,15 +37,14 @@ Answer = Result (Unit {0}) BookingRefusal
 
 -- a new booking: a total of 16, and nobody reserved
 abbrev pub fresh : Shares
-fresh = record { total = 16; count = 0; rates = replicate 8 (record { p = 0; q = 0 }); quanta = replicate 8 0 }
+fresh = record { total = 16; reserved = record { items = [] } }
 
 -- setting the total: refused once a client is reserved, or where it is out of range
 abbrev pub total_says : Shares → ℕ → Answer
-total_says s total = cond (nat_lt 0 s.count) (Err Reserved) (cond (total_ok total) (Ok tt) (Err Range))
+total_says s total = cond (nat_lt 0 (count_in s)) (Err Reserved) (cond (total_ok total) (Ok tt) (Err Range))
 
 abbrev pub total_set : Shares → ℕ → Shares
-total_set s total =
-    cond (nat_lt 0 s.count) s (cond (total_ok total) (record { total = total; count = s.count; rates = s.rates; quanta = s.quanta }) s)
+total_set s total = cond (nat_lt 0 (count_in s)) s (cond (total_ok total) (record { total = total; reserved = s.reserved }) s)
 
 -- reserving the next client: the first cause that holds
 abbrev pub reserve_says : Shares → Rate → ℕ → Answer
@@ -51,7 +53,7 @@ reserve_says s x quantum =
     (cond (quantum_ok quantum)
     (cond (carries s.total x quantum)
     (cond (room s quantum) (Ok tt) (Err Over))
-    (Err Share))
+    (Err SmallShare))
     (Err Range))
     (Err BadRate)
 
@@ -59,7 +61,7 @@ reserve_says s x quantum =
 abbrev pub reserved : Shares → Rate → ℕ → Shares
 reserved s x quantum =
     cond (rate_ok x && (quantum_ok quantum && (carries s.total x quantum && room s quantum)))
-    (record { total = s.total; count = s.count + 1; rates = slice_set s.rates s.count x; quanta = slice_set s.quanta s.count quantum })
+    (record { total = s.total; reserved = record { items = s.reserved.items ++ (record { rate = x; quantum = quantum } ∷ []) } })
     s
 
 -- ## Opening
@@ -68,12 +70,20 @@ reserved s x quantum =
 abbrev pub first_clients : Shares → ℕ → Meaning
 first_clients s n = record { count = n; now = 0; client = λ k. new_client (cond (nat_lt k n) (terms_in s k) vacant) }
 
--- no deficit, and the turn closed at the last client
+-- the place of a client of this share: no deficit yet
+abbrev pub fresh_place : Share → Place
+fresh_place x = record { quantum = x.quantum; deficit = 0 }
+
+-- a place for each client, and the turn closed at the last of them
 abbrev pub fresh_ring : Shares → Ring
-fresh_ring s = record { total = s.total; quanta = s.quanta; deficits = replicate 8 0; turn = s.count - 1; opened = false }
+fresh_ring s = record {
+  total = s.total;
+  places = record { items = map fresh_place s.reserved.items };
+  turn = Closed (count_in s - 1);
+}
 
 abbrev pub opened_from : Shares → State
-opened_from s = record { clients = first_clients s s.count; ring = fresh_ring s }
+opened_from s = record { clients = first_clients s (count_in s); ring = fresh_ring s }
 
 -- ## Service
 

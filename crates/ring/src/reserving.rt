@@ -1,14 +1,15 @@
-ghost use Rattle.std.specs.Prelude.{◌≡◌, ◌≤◌, length};
+ghost use Rattle.std.specs.Prelude.{◌≡◌, ◌≤◌};
 ghost use Rattle.server.specs.Laws.{Unused};
 ghost use Rattle.clients.specs.Meant.{meaning};
 ghost use Rattle.ring.specs.Sums.{sum};
-ghost use Rattle.ring.specs.Shares.{quantum_in, total_ok, quantum_ok, theta as theta_of};
-ghost use Rattle.ring.specs.States.{booked_in, state_of, fresh, total_says, total_set, reserve_says, reserved, first_clients, opened_from};
+ghost use Rattle.ring.specs.Shares.{count_in, quantum_in, total_ok, quantum_ok, theta as theta_of};
+ghost use Rattle.ring.specs.States.{booked_in, state_of, fresh, total_says, total_set, reserve_says, reserved, first_clients, opened_from, fresh_ring};
 
 use crate::booking::RingBooking;
 use crate::ring_server::RingServer;
-use crate::shares::Shares;
-use crate::turns::Ring;
+use crate::shares::{Share, Shares};
+use crate::turns::{Place, Ring, Turn};
+use arrayvec::ArrayVec;
 use clients::booking::BookingRefusal;
 use clients::table::Clients;
 use clients::ticks::{latency_of, rate_in_range};
@@ -18,36 +19,43 @@ use server::rate::{Rate, Terms};
 fn total_in_range(total: u32) -> bool
     ensures { result ≡ total_ok total }
 {
-    16 <= total && total <= 8192
+    (16..=8192).contains(&total)
 }
 
 // Whether a quantum is within its range.
 fn quantum_in_range(quantum: u32) -> bool
     ensures { result ≡ quantum_ok quantum }
 {
-    16 <= quantum && quantum <= 1024
-}
-
-// The slots by which one of `count` clients may be late.
-fn theta(count: u8, total: u32, quantum: u32) -> u32
-    requires { (16 ≤ quantum) × ((quantum ≤ 1024) × ((quantum ≤ total) × ((total ≤ 8192) × (1 ≤ count)))) }
-    ensures { result ≡ theta_of count total quantum }
-{
-    let turns = (total - quantum) * (quantum + 15);
-    (turns + (quantum - 1)) / quantum + (count as u32 - 1) * 15
+    (16..=1024).contains(&quantum)
 }
 
 impl Shares {
     // The quanta reserved so far, together.
     fn used(&self) -> u64
-        requires { (length self.now.quanta ≡ 8) × (self.now.count ≤ 8) }
-        ensures { result ≡ sum self.now.count (quantum_in self.now) }
+        ensures { result ≡ sum (count_in self.now) (quantum_in self.now) }
     {
-        let mut used = 0;
-        for place in 0..self.count as usize {
-            used += self.quanta[place] as u64;
+        self.reserved
+            .iter()
+            .map(|share| u64::from(share.quantum))
+            .sum()
+    }
+
+    // The ring as it opens: a place for each client, and the turn closed at the last of them.
+    fn fresh_ring(&self) -> Ring
+        ensures { result ≡ fresh_ring self.now }
+    {
+        let mut places = ArrayVec::new();
+        for share in self.reserved.iter() {
+            places.push(Place {
+                quantum: share.quantum,
+                deficit: 0,
+            });
         }
-        used
+        Ring {
+            total: self.total,
+            places,
+            turn: Turn::Closed(self.reserved.len().saturating_sub(1) as u8),
+        }
     }
 }
 
@@ -59,9 +67,7 @@ impl RingBooking {
         RingBooking {
             shares: Shares {
                 total: 16,
-                count: 0,
-                rates: [Rate { p: 0, q: 0 }; 8],
-                quanta: [0; 8],
+                reserved: ArrayVec::new(),
             },
         }
     }
@@ -71,7 +77,7 @@ impl RingBooking {
         ensures answers { result ≡ total_says (booked_in self.old) total }
         ensures leaves { booked_in self.new ≡ total_set (booked_in self.old) total }
     {
-        if self.shares.count > 0 {
+        if !self.shares.reserved.is_empty() {
             return Err(BookingRefusal::Reserved);
         }
         if !total_in_range(total) {
@@ -92,19 +98,17 @@ impl RingBooking {
         if !quantum_in_range(quantum) {
             return Err(BookingRefusal::Range);
         }
-        if rate.p as u64 * self.shares.total as u64 > quantum as u64 * rate.q as u64 {
+        let carried = u64::from(rate.p) * u64::from(self.shares.total);
+        if carried > u64::from(quantum) * u64::from(rate.q) {
             return Err(BookingRefusal::Share);
         }
-        if self.shares.count >= 8
-            || self.shares.used() + quantum as u64 > self.shares.total as u64
-        {
+        if self.shares.used() + u64::from(quantum) > u64::from(self.shares.total) {
             return Err(BookingRefusal::Over);
         }
-        let place = self.shares.count as usize;
-        self.shares.rates[place] = rate;
-        self.shares.quanta[place] = quantum;
-        self.shares.count += 1;
-        Ok(())
+        self.shares
+            .reserved
+            .try_push(Share { rate, quantum })
+            .map_err(|_full| BookingRefusal::Over)
     }
 
     // Opens the booking for service, and uses it up.
@@ -112,38 +116,37 @@ impl RingBooking {
         ensures state { state_of result ≡ opened_from (booked_in self) }
         ensures unused { ∥ Unused (state_of result).clients ∥₁ }
     {
-        let clients = self.admitted();
-        let RingBooking { shares } = self;
-        let turn = shares.count.saturating_sub(1);
-        let quanta = shares.quanta;
         RingServer {
-            clients,
-            ring: Ring {
-                total: shares.total,
-                quanta,
-                deficits: [0; 8],
-                turn,
-                opened: false,
-            },
+            clients: self.admitted(),
+            ring: self.shares.fresh_ring(),
         }
+    }
+
+    // The slots by which a client of this quantum may be late.
+    fn theta(&self, quantum: u32) -> u32
+        requires { (16 ≤ quantum) × (quantum ≤ self.now.shares.total) }
+        ensures { result ≡ theta_of (count_in (booked_in self.now)) (booked_in self.now).total quantum }
+    {
+        let shares = &self.shares;
+        let turns = (shares.total - quantum) * (quantum + 15);
+        let others = shares.reserved.len().saturating_sub(1) as u32;
+        turns.div_ceil(quantum) + others * 15
     }
 
     // The reserved clients, each with its latency.
     fn admitted(&self) -> Clients
-        ensures { meaning result ≡ first_clients (booked_in self.now) (booked_in self.now).count }
+        ensures { meaning result ≡ first_clients (booked_in self.now) (count_in (booked_in self.now)) }
     {
         let mut clients = Clients::new();
-        for place in 0..self.shares.count as usize {
-            let rate = self.shares.rates[place];
-            let late = theta(
-                self.shares.count,
-                self.shares.total,
-                self.shares.quanta[place],
-            );
-            let _ = clients.admit(Terms {
-                rate,
-                latency: latency_of(rate, late) as u32,
-            });
+        for share in self.shares.reserved.iter() {
+            let theta = self.theta(share.quantum);
+            // a ring's latencies are far below 32 bits: the cast loses none
+            let terms = Terms {
+                rate: share.rate,
+                latency: latency_of(share.rate, theta) as u32,
+            };
+            // what a booking keeps leaves no cause to turn a client away
+            clients.admit(terms).unwrap();
         }
         clients
     }

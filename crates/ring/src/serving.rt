@@ -1,5 +1,5 @@
 ghost use Rattle.std.specs.Prelude.{◌≡◌};
-ghost use Rattle.ring.specs.Turns.{turn_in};
+ghost use Rattle.ring.specs.Turns.{turn_in, client_of};
 ghost use Rattle.ring.specs.States.{State as Turning, state_of, ring_machine};
 ghost use Rattle.std.proofs.Math.Logic.{∥∥₁_elim};
 ghost use Rattle.server.proofs.Props.{lawful_prop};
@@ -8,21 +8,22 @@ ghost use Rattle.ring.specs.Search.{gone_round};
 ghost use Rattle.ring.specs.Pacing.{paced_lawful};
 
 use crate::ring_server::RingServer;
-use crate::searching::{first_waiting, length_of, rest_given};
+use crate::searching::{length_of, rest_given};
+use crate::turns::Turn;
 use server::block::Served;
-use server::rate::Rate;
 use server::refusal::Refusal;
 use server::server::Server;
+use server::view::View;
 
 impl RingServer {
     // The open turn's client, or the next that has a block.
     fn whose_turn(&self) -> Option<u8>
         ensures { result ≡ turn_in (state_of self.now).clients (state_of self.now).ring }
     {
-        if self.ring.opened {
-            return Some(self.ring.turn);
+        match self.ring.turn {
+            Turn::Open(client) => Some(client),
+            Turn::Closed(last) => self.first_waiting(last),
         }
-        first_waiting(&self.clients, self.ring.turn)
     }
 }
 
@@ -33,17 +34,17 @@ impl Server for RingServer {
 
     ghost means = { λ s. s.clients };
 
-    ghost sound = { λ x. Unit {0} };
-
     ghost named = { Unit {0} };
 
     ghost machine = { ring_machine };
 
-    ghost lawful = { λ x s.
+    ghost lawful = { λ x.
         let m = meaning x.clients in
         ∥∥₁_elim x.clients.kept (lawful_prop m) (λ k.
-        ∥∥₁_elim x.sound (lawful_prop m) (λ h. paced_lawful m x.ring (gone_round m.count x.ring.turn) x.within h.paced k)) };
+        ∥∥₁_elim x.sound (lawful_prop m) (λ h. paced_lawful m x.ring (gone_round m.count (client_of x.ring.turn)) x.within h.paced k)) };
 
+    // The calls but `slot` go to the table, each from here, where the invariants of this type are kept: a
+    // shared body would need a second trait with these contracts.
     fn clients(&self) -> u8 {
         self.clients.count()
     }
@@ -52,20 +53,8 @@ impl Server for RingServer {
         self.clients.now()
     }
 
-    fn rate(&self, client: u8) -> Result<Rate, Refusal> {
-        Ok(self.clients.terms(client)?.rate)
-    }
-
-    fn latency(&self, client: u8) -> Result<u32, Refusal> {
-        Ok(self.clients.terms(client)?.latency)
-    }
-
-    fn clock(&self, client: u8) -> Result<u64, Refusal> {
-        self.clients.clock(client)
-    }
-
-    fn waiting(&self, client: u8) -> Result<u8, Refusal> {
-        self.clients.waiting(client)
+    fn view(&self, client: u8) -> Result<View, Refusal> {
+        self.clients.view(client)
     }
 
     fn submit(&mut self, client: u8, label: u32, length: u8) -> Result<u64, Refusal> {
@@ -81,10 +70,8 @@ impl Server for RingServer {
             .ring
             .begun_with(client, length_of(self.clients.front(client)));
         let served = self.clients.slot(Some(client))?;
-        let rest = rest_given(begun, served, self.clients.front(client));
-        self.ring.deficits[client as usize] = rest.deficit;
-        self.ring.turn = client;
-        self.ring.opened = rest.opened;
+        let rest = rest_given(client, begun, served, self.clients.front(client));
+        self.ring.turn_to(client, rest);
         Ok(served)
     }
 }

@@ -1,10 +1,16 @@
+use arrayvec::ArrayVec;
 use server::rate::Rate;
 
-// The ring total and the rates and quanta reserved so far: the first `count` of eight places.
-#[derive(Clone, Copy)]
+// What a client reserves: its rate, and the quantum that a turn of it adds.
+#[derive(Clone, Copy, Default)]
+pub struct Share {
+    pub(crate) rate: Rate,
+    pub(crate) quantum: u32,
+}
+
+// The ring total, and what the clients reserved so far, in their order.
+#[derive(Drop)]
 pub struct Shares {
     pub(crate) total: u32,
-    pub(crate) count: u8,
-    pub(crate) rates: [Rate; 8],
-    pub(crate) quanta: [u32; 8],
+    pub(crate) reserved: ArrayVec<Share, 8>,
 }

@@ -1,17 +1,30 @@
-// The quanta and deficits of the clients, by their places, and the turn: whose it is or was last, and
-// whether it stands open.
-#[derive(Clone, Copy)]
-pub struct Ring {
-    pub(crate) total: u32,
-    pub(crate) quanta: [u32; 8],
-    pub(crate) deficits: [u32; 8],
-    pub(crate) turn: u8,
-    pub(crate) opened: bool,
+use arrayvec::ArrayVec;
+
+// A client's place in the ring: the units that a turn of it adds, and those left of its turns so far.
+#[derive(Clone, Copy, Default)]
+pub struct Place {
+    pub(crate) quantum: u32,
+    pub(crate) deficit: u32,
 }
 
-// What is left of a turn after a unit went: the client's deficit, and whether the turn stays open.
+// Whose turn it is, or was last. An open turn goes on; a closed one is over.
+#[derive(Clone, Copy)]
+pub enum Turn {
+    Open(u8),
+    Closed(u8),
+}
+
+// The ring total, the clients' places in their order, and the turn.
+#[derive(Drop)]
+pub struct Ring {
+    pub(crate) total: u32,
+    pub(crate) places: ArrayVec<Place, 8>,
+    pub(crate) turn: Turn,
+}
+
+// What is left of a turn after a unit went: the client's deficit, and the turn.
 #[derive(Clone, Copy)]
 pub struct Rest {
     pub(crate) deficit: u32,
-    pub(crate) opened: bool,
+    pub(crate) turn: Turn,
 }

@@ -1,5 +1,5 @@
 -- One call of a run: its line, if it has one, is written behind what was there, as far as there is room.
-use Rattle.std.proofs.Common.{◌≡◌, ℕ, ◌<◌, ◌≤◌, Bool, true, false, cond, leb, ltb, List, [], ◌∷◌, ◌++◌, length, take, Ok, Err, Option, Some, None, sym, refl, ap, ◌∙◌, arith}
+use Rattle.std.proofs.Common.{◌≡◌, ℕ, ◌<◌, ◌≤◌, Bool, true, false, cond, leb, ltb, List, [], ◌∷◌, ◌++◌, length, take, Ok, Err, Option, Result, Some, None, sym, refl, ap, ◌∙◌, IsOk, OnOk, OnErr, arith}
 use Rattle.std.proofs.lemmas.List.{append-nil, take_all, take-append-le, length-take-le, length-append}
 use Rattle.std.proofs.lemmas.Bool.{le-ltb, lt-ltb, leb-true, leb-false}
 use Rattle.server.specs.declared.server.Server.{Ghosts}
@@ -11,6 +11,7 @@ use Rattle.book.specs.declared.calls.Call.{Call}
 use Rattle.book.specs.declared.calls.Event.{Event}
 use Rattle.book.specs.declared.calls.Event.TheVariants.{Submit, Slot, Ask}
 use Rattle.book.specs.Runs.{call_of, Takes, happens, leads}
+use Rattle.arrayvec.specs.ArrayVec.{ArrayVec}
 use Rattle.lines.specs.Tables.{pushed}
 use Rattle.logs.specs.declared.line.Line.{Line}
 use Rattle.run.specs.Logs.{after, line_of, list_of, lines_from}
@@ -48,29 +49,37 @@ pushed_take most all item = by (leb most (length all)) refl
         ∙ ap (λ v. v ++ (item ∷ [])) whole
         ∙ sym (take_all most (all ++ (item ∷ [])) (omega (arith, length-append all (item ∷ []))))
 
-module _ {S : Type 0} (a : Ghosts S) (lawful : (z : S) → a.sound z → Lawful (a.means (a.state z))) (x y : S) (call : Call) (event : Event) (of : call_of event ≡ call)
-    (takes : a.sound x → Takes (a.means (a.state x)) event (a.means (a.state y))) (stays : a.sound x → a.sound y)
-    (exactly : a.sound x → a.named → (event ≡ happens a.means a.machine (a.state x) call) × (a.state y ≡ leads a.means a.machine (a.state x) call))
+-- what a vector takes where it has room
+pub tried : {T E : Type 0} (most : ℕ) (old new : ArrayVec T) (item : T) (r : Result (Unit {0}) E) → (IsOk r → length old.items < most)
+    → OnOk r (new.items ≡ old.items ++ (item ∷ [])) → OnErr r (new ≡ old) → OnErr r (length old.items ≡ most) → new.items ≡ pushed most old.items item
+tried most old new item (Ok done) room is same full =
+    is ∙ sym (ap (λ t. cond t (old.items ++ (item ∷ [])) old.items) (lt-ltb (length old.items) most (room refl)))
+tried {T} most old new item (Err e) room is same full =
+    ap (λ (v : ArrayVec T). v.items) same
+    ∙ sym (ap (λ t. cond t (old.items ++ (item ∷ [])) old.items) (le-ltb (length old.items) most (omega arith)))
+
+module _ {S : Type 0} (a : Ghosts S) (lawful : (z : S) → Lawful (a.means (a.state z))) (x y : S) (call : Call) (event : Event) (of : call_of event ≡ call)
+    (takes : Takes (a.means (a.state x)) event (a.means (a.state y)))
+    (exactly : a.named → (event ≡ happens a.means a.machine (a.state x) call) × (a.state y ≡ leads a.means a.machine (a.state x) call))
     (now : ℕ) (told : now ≡ (a.means (a.state y)).now) where
-  lines_of : (line : Option Line) → line ≡ line_of now event → a.sound x → lines_from (a.means (a.state x)).now (event ∷ []) ≡ list_of line
-  lines_of line e s =
+  lines_of : (line : Option Line) → line ≡ line_of now event → lines_from (a.means (a.state x)).now (event ∷ []) ≡ list_of line
+  lines_of line e =
       append-nil (list_of (line_of (after (a.means (a.state x)).now event) event))
-      ∙ ap (λ t. list_of (line_of t event)) (after_takes (a.means (a.state x)) event (a.means (a.state y)) (takes s) ∙ sym told)
+      ∙ ap (λ t. list_of (line_of t event)) (after_takes (a.means (a.state x)) event (a.means (a.state y)) takes ∙ sym told)
       ∙ ap list_of (sym e)
 
-  ran : (old new : List Line) → a.sound x → ((all : List Line) → old ≡ take 1208 all → new ≡ take 1208 (all ++ lines_from (a.means (a.state x)).now (event ∷ []))) → Ran a x (call ∷ []) y old new
-  ran old new s lines = record {
-    stays = stays s;
+  ran : (old new : List Line) → ((all : List Line) → old ≡ take 1208 all → new ≡ take 1208 (all ++ lines_from (a.means (a.state x)).now (event ∷ []))) → Ran a x (call ∷ []) y old new
+  ran old new lines = record {
     events = event ∷ [];
     of = ap (λ c. c ∷ []) of;
-    run = (lawful x s, (a.means (a.state y), takes s, (lawful y (stays s), refl)));
-    exactly = λ n. (ap (λ e. e ∷ []) (exactly s n).0, (exactly s n).1);
+    run = (lawful x, (a.means (a.state y), takes, (lawful y, refl)));
+    exactly = λ n. (ap (λ e. e ∷ []) (exactly n).0, (exactly n).1);
     lines = lines;
   }
 
-  pub ran_some : (line : Line) → Some line ≡ line_of now event → (old new : List Line) → new ≡ pushed 1208 old line → a.sound x → Ran a x (call ∷ []) y old new
-  ran_some line e old new p s = ran old new s (λ all h.
-      p ∙ ap (λ v. pushed 1208 v line) h ∙ pushed_take 1208 all line ∙ ap (λ v. take 1208 (all ++ v)) (sym (lines_of (Some line) e s)))
+  pub ran_some : (line : Line) → Some line ≡ line_of now event → (old new : List Line) → new ≡ pushed 1208 old line → Ran a x (call ∷ []) y old new
+  ran_some line e old new p = ran old new (λ all h.
+      p ∙ ap (λ v. pushed 1208 v line) h ∙ pushed_take 1208 all line ∙ ap (λ v. take 1208 (all ++ v)) (sym (lines_of (Some line) e)))
 
-  pub ran_none : None ≡ line_of now event → (old : List Line) → a.sound x → Ran a x (call ∷ []) y old old
-  ran_none e old s = ran old old s (λ all h. h ∙ ap (λ v. take 1208 v) (sym (ap (λ v. all ++ v) (lines_of None e s) ∙ append-nil all)))
+  pub ran_none : None ≡ line_of now event → (old : List Line) → Ran a x (call ∷ []) y old old
+  ran_none e old = ran old old (λ all h. h ∙ ap (λ v. take 1208 v) (sym (ap (λ v. all ++ v) (lines_of None e) ∙ append-nil all)))

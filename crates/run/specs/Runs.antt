@@ -7,9 +7,8 @@ use Rattle.book.specs.Runs.{call_of, Run, history, ending}
 use Rattle.logs.specs.declared.line.Line.{Line}
 use Rattle.run.specs.Logs.{lines_from}
 
--- these calls lead from one sound server to another, and what they make is written behind what was there
+-- these calls lead from one server to another, and what they make is written behind what was there
 pub record Ran {S : Type 0} (a : Ghosts S) (x : S) (calls : List Call) (y : S) (old new : List Line) : Type 0 where
-  pub stays : a.sound y
   pub events : List Event
   pub of : map call_of events ≡ calls
   pub run : Run (a.means (a.state x)) events (a.means (a.state y))

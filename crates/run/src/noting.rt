@@ -6,7 +6,7 @@ ghost use Rattle.run.specs.Logs.{line_of, latency_line};
 use book::calls::Event;
 use logs::{DepartureLine, GrantLine, LatencyLine, Line, RefusalLine};
 use server::block::Served;
-use server::rate::Rate;
+use server::rate::Terms;
 use server::refusal::Refusal;
 use server::server::Server;
 
@@ -32,32 +32,28 @@ pub(crate) fn line_of(slot: u32, event: Event) -> Option<Line>
             client: block.client,
             label: block.label,
         })),
-        Event::Slot(Ok(Served::Unit(_))) => None,
-        Event::Slot(Ok(Served::Nothing)) => None,
-        Event::Slot(Err(_)) => None,
-        Event::Ask(_, _) => None,
+        Event::Slot(Ok(Served::Unit(_) | Served::Nothing) | Err(_)) | Event::Ask(_, _) => None,
     }
 }
 
 /// A latency in slots, rounded up; none where there is no rate.
-fn slots_of(rate: Rate, latency: u32) -> u32
-    ensures { result ≡ (latency + (rate.p - 1)) / rate.p }
+fn slots_of(terms: Terms) -> u32
+    ensures { result ≡ (terms.latency + (terms.rate.p - 1)) / terms.rate.p }
 {
-    if rate.p == 0 {
-        return 0;
+    match terms.rate.p {
+        0 => 0,
+        p => terms.latency.div_ceil(p as u32),
     }
-    latency.div_ceil(rate.p as u32)
 }
 
 /// The line of a client's latency.
 pub(crate) fn latency_line<S: Server>(server: &S, client: u8) -> Result<Line, Refusal>
-    ensures { S.Server.sound server.now → result ≡ asked (S.Server.means (S.Server.state server.now)) client (λ x. latency_line client x) }
+    ensures { result ≡ asked (S.Server.means (S.Server.state server.now)) client (λ x. latency_line client x) }
 {
-    let rate = server.rate(client)?;
-    let latency = server.latency(client)?;
+    let terms = server.view(client)?.terms;
     Ok(Line::Latency(LatencyLine {
         client,
-        latency,
-        slots: slots_of(rate, latency),
+        latency: terms.latency,
+        slots: slots_of(terms),
     }))
 }

@@ -5,6 +5,7 @@ use Rattle.server.specs.declared.block.Served.{Served}
 use Rattle.server.specs.declared.block.Served.TheVariants.{Nothing, Unit as OneUnit, Departed}
 use Rattle.server.specs.declared.refusal.Refusal.{Refusal}
 use Rattle.server.specs.declared.refusal.Refusal.TheVariants.{NoClient, BadLength, Full, Ended}
+use Rattle.server.specs.declared.view.View.{View}
 use Rattle.server.specs.Meaning.{Client, Meaning}
 
 -- the due of a granted block, or a refusal
@@ -20,6 +21,10 @@ SlotAnswer = Result Served Refusal
 -- what a question about one client answers: refused where there is no such client
 abbrev pub asked : {R : Type 0} → Meaning → ℕ → (Client → R) → Result R Refusal
 asked m c f = cond (nat_lt c m.count) (Ok (f (m.client c))) (Err NoClient)
+
+-- what is told of a client
+abbrev pub view_of : Client → View
+view_of x = record { terms = x.terms; clock = x.clock; waiting = length x.waiting }
 
 -- ## Submission
 

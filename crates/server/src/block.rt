@@ -1,5 +1,5 @@
 // A waiting block: its label code, its length in units, the units left of it, and its start in ticks.
-#[derive(Clone, Copy, PartialEq, Eq, Debug)]
+#[derive(Clone, Copy, PartialEq, Eq, Default, Debug)]
 pub struct Block {
     pub label: u32,
     pub length: u8,

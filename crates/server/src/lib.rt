@@ -7,4 +7,4 @@ pub mod block;
 pub mod rate;
 pub mod refusal;
 pub mod server;
-pub mod ticks;
+pub mod view;

@@ -5,7 +5,7 @@ use Rattle.reader.specs.Fields.{only}
 use Rattle.lines.specs.Frames.{frame_of}
 use Rattle.lines.specs.Lines.{and_then, header_of, client_of, request_of, end_of}
 use Rattle.reader.specs.Parts.{field_at}
-use Rattle.lines.specs.Tables.{listed, pushed}
+use Rattle.lines.specs.Tables.{pushed}
 use Rattle.faults.specs.declared.BookingFault.{BookingFault}
 use Rattle.faults.specs.declared.LineFault.TheVariants.{Letter, Slot, Crowd, Booking}
 use Rattle.faults.specs.declared.LineFault.{LineFault}
@@ -39,7 +39,7 @@ pub record Open (S : Type 0) : Type 0 where
 
 -- what a trace that was read tells
 abbrev pub told_of : Trace → Told
-told_of t = record { header = t.header; owners = listed t.owners; clients = listed t.clients; requests = listed t.requests; end = t.end }
+told_of t = record { header = t.header; owners = t.owners.items; clients = t.clients.items; requests = t.requests.items; end = t.end }
 
 -- a trace that is being read, as far as it was read
 abbrev pub seen_of : Reading → Seen

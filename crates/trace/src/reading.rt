@@ -1,18 +1,19 @@
 // A trace as it was read, and a trace that is being read.
-use lines::{Client, Header, Owner, Request, Table};
+use arrayvec::ArrayVec;
+use lines::{Client, Header, Owner, Request};
 
 /// What a trace tells: its header, the frame's owners, the clients, the requests and the slot of the end.
 #[derive(Drop)]
 pub struct Trace {
     pub header: Header,
-    pub owners: Table<Owner, 256>,
-    pub clients: Table<Client, 8>,
-    pub requests: Table<Request, 600>,
+    pub owners: ArrayVec<Owner, 256>,
+    pub clients: ArrayVec<Client, 8>,
+    pub requests: ArrayVec<Request, 600>,
     pub end: u32,
 }
 
 /// Which lines may stand next.
-#[derive(Clone, Copy)]
+#[derive(Clone, Copy, PartialEq, Eq, Debug)]
 pub enum Place {
     /// The frame's line.
     Frame,

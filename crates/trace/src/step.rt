@@ -5,9 +5,10 @@ ghost use Rattle.std.specs.Prelude.{◌≡◌};
 
 use crate::bookings::Bookings;
 use crate::reading::{Place, Reading, Trace};
+use arrayvec::ArrayVec;
 use faults::LineFault;
 use labels::LabelKind;
-use lines::{Client, Header, Request, Table, client, end, frame, request};
+use lines::{Header, client, end, frame, request};
 use reader::begins;
 
 impl Reading {
@@ -15,28 +16,12 @@ impl Reading {
     pub(crate) fn new(header: Header) -> Reading
         ensures { seen_of result ≡ started header }
     {
-        let nobody = Client {
-            units: 0,
-            slots: 0,
-            step: 0,
-            cap: 0,
-            quantum: 0,
-        };
-        let nothing = Request {
-            slot: 0,
-            client: 0,
-            label: 0,
-            length: 0,
-        };
-        let owners = Table::new(None);
-        let clients = Table::new(nobody);
-        let requests = Table::new(nothing);
         Reading {
             trace: Trace {
                 header,
-                owners,
-                clients,
-                requests,
+                owners: ArrayVec::new(),
+                clients: ArrayVec::new(),
+                requests: ArrayVec::new(),
                 end: 0,
             },
             place: Place::Frame,
@@ -69,7 +54,8 @@ impl Reading {
     {
         let client = client(line)?;
         bookings.reserve(&client)?;
-        let _ = self.trace.clients.push(client);
+        // The first eight are kept; whether there may be more is the bookings' to say.
+        let _ = self.trace.clients.try_push(client);
         self.place = Place::Clients;
         Ok(())
     }
@@ -82,9 +68,10 @@ impl Reading {
         if request.slot < self.slot {
             return Err(LineFault::Slot);
         }
-        if !self.trace.requests.push(request) {
-            return Err(LineFault::Crowd);
-        }
+        self.trace
+            .requests
+            .try_push(request)
+            .map_err(|_| LineFault::Crowd)?;
         self.place = Place::Requests;
         self.slot = request.slot;
         Ok(())
@@ -114,7 +101,7 @@ impl Reading {
         }
     }
 
-    /// The line that may stand next.
+    /// The line that may stand next. What was read so far is a state, and each state takes another call.
     pub(crate) fn line<L: LabelKind, B: Bookings>(
         &mut self,
         bookings: &mut B,

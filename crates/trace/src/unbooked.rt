@@ -6,7 +6,7 @@ use faults::BookingFault;
 use lines::{Client, Header, Owner};
 
 /// Bookings that refuse nothing and hold nothing.
-#[derive(Clone, Copy)]
+#[derive(Clone, Copy, Default, PartialEq, Eq, Debug)]
 pub struct Unbooked;
 
 impl Bookings for Unbooked {

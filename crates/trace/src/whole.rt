@@ -5,7 +5,7 @@ ghost use Rattle.marks.specs.Marks.{parts};
 ghost use Rattle.trace.specs.Bookings.{led};
 ghost use Rattle.reader.specs.Parts.{left};
 ghost use Rattle.trace.specs.Readings.{header_line, open_of, seen_of, started};
-ghost use Rattle.trace.specs.Traces.{finished, lines_from, read_of, started_with, told_by, trace_of};
+ghost use Rattle.trace.specs.Traces.{at_line, finished, lines_from, read_of, started_with, told_by, trace_of};
 
 use crate::bookings::Bookings;
 use crate::reading::{Place, Reading, Trace};
@@ -13,6 +13,13 @@ use faults::{LineFault, RunFault};
 use labels::{Kind, LabelKind, Packet, Serial};
 use lines::{Header, header};
 use reader::Reader;
+
+/// A line's fault is the trace's, whole and with the line's number.
+fn at_line<T>(number: u32, line: Result<T, LineFault>) -> Result<T, RunFault>
+    ensures { result ≡ at_line number line }
+{
+    line.map_err(|fault| RunFault::At(number, fault))
+}
 
 /// The first line, with its two capacities set.
 fn set_up<B: Bookings>(bookings: &mut B, line: &[u8]) -> Result<Header, LineFault>
@@ -48,12 +55,11 @@ fn body<L: LabelKind, B: Bookings>(
     ensures { read_of result (B.Bookings.state bookings.new) ≡ lines_from B.Bookings.desk L.LabelKind.reads (record { seen = started header; booked = B.Bookings.state bookings.old }) 2 (parts 10 (left reader.entry)) }
 {
     let mut reading = Reading::new(header);
+    // Counted by hand, since a line that is missing behind the last is told by its number too.
     let mut number = 2;
     while let Some(line) = reader.line() {
-        match reading.line::<L, B>(bookings, line) {
-            Ok(()) => number += 1,
-            Err(fault) => return Err(RunFault::At(number, fault)),
-        }
+        at_line(number, reading.line::<L, B>(bookings, line))?;
+        number += 1;
     }
     finish(reading, number, reader.rest())
 }
@@ -81,11 +87,7 @@ pub fn read<B: Bookings>(trace: &[u8], bookings: &mut B) -> Result<Trace, RunFau
         return Err(RunFault::Size);
     }
     let mut reader = Reader::new(trace);
-    let Some(line) = reader.line() else {
-        return Err(RunFault::At(1, LineFault::End));
-    };
-    match set_up(bookings, line) {
-        Ok(header) => body_by_kind(header, bookings, reader),
-        Err(fault) => Err(RunFault::At(1, fault)),
-    }
+    let line = reader.line().ok_or(RunFault::At(1, LineFault::End))?;
+    let header = at_line(1, set_up(bookings, line))?;
+    body_by_kind(header, bookings, reader)
 }

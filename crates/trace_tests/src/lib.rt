@@ -11,8 +11,8 @@ use trace::Unbooked;
 fn told(bytes: &[u8]) -> Notice {
     let mut bookings = Unbooked;
     match trace::read(bytes, &mut bookings) {
-        Ok(_) => notice(0, 0, 0, 0),
-        Err(fault) => fault.notice(),
+        Ok(_) => Notice::default(),
+        Err(fault) => fault.into(),
     }
 }
 
@@ -49,7 +49,7 @@ mod tests {
     use std::process::Abort;
     use std::test::Fail;
 
-    // A trace, and the line, the field and the number of its fault.
+    // A trace, and the line, the field and the number of its fault, in the numbers by which a fault is told.
     type Row = (&'static [u8], u32, u8, u8);
 
     fn each(rt: &impl Abort, table: &[Row]) {

@@ -6,9 +6,7 @@ use Rattle.book.proofs.driving.drive.Given as goal
 abbrev pub invariant-loop-i : goal.invariant-loop-i
 invariant-loop-i g l =
     (map call_of (take l.i l.events) ≡ take l.i l.calls)
-    × (g.S.Server.sound l.initial.server → g.S.Server.sound l.server
-    × Run (g.S.Server.means (g.S.Server.state l.initial.server)) (take l.i l.events) (g.S.Server.means (g.S.Server.state l.server)))
-    × (g.S.Server.sound l.initial.server → g.S.Server.named
-    → (take l.i l.events ≡ history g.S.Server.means g.S.Server.machine (g.S.Server.state l.initial.server) (take l.i l.calls))
+    × (Run (g.S.Server.means (g.S.Server.state l.initial.server)) (take l.i l.events) (g.S.Server.means (g.S.Server.state l.server)))
+    × (g.S.Server.named → (take l.i l.events ≡ history g.S.Server.means g.S.Server.machine (g.S.Server.state l.initial.server) (take l.i l.calls))
     × (g.S.Server.state l.server ≡ ending g.S.Server.means g.S.Server.machine (g.S.Server.state l.initial.server) (take l.i l.calls)))
     × (drop l.i l.events ≡ drop l.i l.initial.events)

@@ -1,24 +1,11 @@
-use Rattle.decimal.specs.Texts.{text_of}
 use Rattle.labels.proofs.PacketLabelKind.write.Goals as goal
-use Rattle.labels.proofs.PacketWriting.{stop_fits, count_fits, packet_written}
-use Rattle.std.proofs.lemmas.Bool.{both_ways}
-use Rattle.std.proofs.Common.{sym}
+use Rattle.labels.specs.Packets.{packet_length}
+use Rattle.std.proofs.Common.{length, ap, arith}
 
-pub returns-in_err-push : goal.returns-in_err-push
-returns-in_err-push c =
-    absurd
-    (both_ways _ (sym c.in_err-push.ensures.answer)
-    (stop_fits c.args.code c.if-code-gt33554431.false (text_of c.number-text.result) c.number-text.ensures))
+pub push_str-requires : goal.push_str-requires
+push_str-requires c = omega (arith, ap length c.write-text.ensures, (packet_length c.args.code c.if-code-gt33554431.false).0)
 
-pub returns-in_err-append : goal.returns-in_err-append
-returns-in_err-append c =
-    absurd
-    (both_ways _ (sym c.in_err-append.ensures.answer)
-    (count_fits c.args.code c.if-code-gt33554431.false (text_of c.number-text.result) c.number-text.ensures
-    (text_of c.push.new.self) c.push.ensures.after (text_of c.number.result) c.number.ensures))
-
-pub returns : goal.returns
-returns c =
-    packet_written c.args.code c.if-code-gt33554431.false (text_of c.number-text.result) c.number-text.ensures
-    (text_of c.push.new.self) c.push.ensures.after (text_of c.number.result) c.number.ensures
-    (text_of c.append.new.self) c.append.ensures.after
+pub push_str-requires-2 : goal.push_str-requires-2
+push_str-requires-2 c =
+    let sizes = packet_length c.args.code c.if-code-gt33554431.false in
+    omega (arith, ap length c.write-text.ensures, ap length c.as_str.ensures.value, ap length c.write.ensures, sizes.0, sizes.1)

@@ -8,9 +8,12 @@ use Rattle.trace.specs.Traces.{lines_from}
 -- the lines that are left give what all lines gave
 abbrev pub invariant-loop-line : goal.invariant-loop-line
 invariant-loop-line g l =
-    (l.number + length (left l.reader) ≤ 65538)
-    × (lines_from g.B.Bookings.desk g.L.LabelKind.reads (open_of l.reading (g.B.Bookings.state l.bookings)) l.number (parts 10 (left l.reader))
-    ≡ lines_from g.B.Bookings.desk g.L.LabelKind.reads (open_of l.initial.reading (g.B.Bookings.state l.initial.bookings)) 2 (parts 10 (left l.initial.reader)))
+    record {
+      short : l.number + length (left l.reader) ≤ 65538;
+      same :
+          lines_from g.B.Bookings.desk g.L.LabelKind.reads (open_of l.reading (g.B.Bookings.state l.bookings)) l.number (parts 10 (left l.reader))
+          ≡ lines_from g.B.Bookings.desk g.L.LabelKind.reads (open_of l.initial.reading (g.B.Bookings.state l.initial.bookings)) 2 (parts 10 (left l.initial.reader));
+    }
 
 abbrev pub decreases-loop-line : goal.decreases-loop-line
 decreases-loop-line g l = length (left l.reader)

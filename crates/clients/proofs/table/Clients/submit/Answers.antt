@@ -1,44 +1,40 @@
-use Rattle.std.proofs.Common.{length, sym, ◌∙◌, subst, arith, length-set}
+use Rattle.std.proofs.Common.{◌≤◌, sym, ap, subst, arith}
 use mathlib.Core.Logic.{∥∥₁_map}
+use Rattle.server.specs.declared.view.View.{View}
+use Rattle.server.specs.Calls.{view_of}
+use Rattle.server.proofs.Grants.{asked_ok}
 use Rattle.clients.specs.Held.{Kept}
 use Rattle.clients.specs.View.{viewed}
 use Rattle.clients.proofs.Kept.{kept_submitted}
-use Rattle.clients.proofs.Places.{asked_ok, start_fits, room_is, submit_says, submit_leaves}
+use Rattle.clients.proofs.Places.{enter_small, submit_says, submit_leaves}
 use Rattle.clients.proofs.table.Clients.submit.Goals as goal
 
-pub overflow_add-self : goal.overflow_add-self
-overflow_add-self c =
+pub enter-requires-clause-small : goal.enter-requires-clause-small
+enter-requires-clause-small c =
     let x = c.args.self.now in
-    let a = asked_ok x.now x.lanes c.args.client c.in_ok-waiting.waiting (λ y. length y.waiting) c.in_ok-waiting.ensures in
-    omega (arith, start_fits x.now x.lanes x.full.0 x.full.1 x.full.2 c.args.client a.0 (omega (arith, a.0)) x.kept c.start_at-start.result c.args.units c.start_at-start.ensures (omega arith))
-
-pub push-requires : goal.push-requires
-push-requires c =
-    let x = c.args.self.now in
-    let a = asked_ok x.now x.lanes c.args.client c.in_ok-waiting.waiting (λ y. length y.waiting) c.in_ok-waiting.ensures in
-    room_is x.now x.lanes x.full.0 x.full.1 x.full.2 c.args.client a.0 (omega (arith, a.0)) c.index-self-place.result c.in_ok-waiting.waiting a.1 (omega arith)
+    let a = asked_ok (viewed x.now x.lanes) c.args.client c.in_ok-view.view view_of c.in_ok-view.ensures in
+    let h : c.args.units ≤ 16 = grind arith in
+    enter_small x.now x.lanes x.kept c.args.client c.deref_mut.result.now c.index-deref_mut-client.result a.0 c.deref_mut.ensures.value c.args.units h
 
 pub invariant_of-self : goal.invariant_of-self
 invariant_of-self c =
     let x = c.args.self.now in
-    let l = x.lanes in
-    let a = asked_ok x.now l c.args.client c.in_ok-waiting.waiting (λ y. length y.waiting) c.in_ok-waiting.ensures in
-    let e = submit_leaves x.now l x.full.0 x.full.1 x.full.2 c.args.client a.0 (omega (arith, a.0)) c.args.label c.args.units c.start_at-start.result
-    c.in_ok-waiting.waiting (omega arith) (omega arith) a.1 (omega arith) c.start_at-start.ensures c.index-self-place.result c.push.new.self c.push.ensures in
-    record {
-      full = (x.full.0, length-set l.clocks c.args.client _ ∙ x.full.1, length-set l.queues c.args.client c.push.new.self ∙ x.full.2);
-      few = x.few;
-      kept = ∥∥₁_map x.kept (λ g. subst Kept (sym e) (kept_submitted (viewed x.now l) c.args.client c.args.label c.args.units g));
-    }
+    let m = viewed x.now x.lanes in
+    let a = asked_ok m c.args.client c.in_ok-view.view view_of c.in_ok-view.ensures in
+    let w = ap (λ (v : View). v.waiting) a.1 in
+    let e = submit_leaves x.now x.lanes x.kept c.args.client c.deref_mut.result.now c.index-deref_mut-client.result a.0 c.deref_mut.ensures.value c.args.units (grind arith) (grind arith) (omega (arith, w))
+    c.args.label c.enter.new.self c.enter.ensures.leaves in
+    record { kept = ∥∥₁_map x.kept (λ g. subst Kept (sym e) (kept_submitted m c.args.client c.args.label c.args.units g)) }
 
 pub returns : goal.returns
 returns c =
     let x = c.args.self.now in
-    let l = x.lanes in
-    let a = asked_ok x.now l c.args.client c.in_ok-waiting.waiting (λ y. length y.waiting) c.in_ok-waiting.ensures in
+    let m = viewed x.now x.lanes in
+    let a = asked_ok m c.args.client c.in_ok-view.view view_of c.in_ok-view.ensures in
+    let w = ap (λ (v : View). v.waiting) a.1 in
     record {
-      answers = submit_says x.now l x.full.0 x.full.1 x.full.2 c.args.client a.0 (omega (arith, a.0)) c.args.label c.args.units c.start_at-start.result
-          c.in_ok-waiting.waiting (omega arith) (omega arith) a.1 (omega arith) c.start_at-start.ensures x.kept c.due_of.result c.due_of.ensures;
-      leaves = submit_leaves x.now l x.full.0 x.full.1 x.full.2 c.args.client a.0 (omega (arith, a.0)) c.args.label c.args.units c.start_at-start.result
-          c.in_ok-waiting.waiting (omega arith) (omega arith) a.1 (omega arith) c.start_at-start.ensures c.index-self-place.result c.push.new.self c.push.ensures;
+      answers = submit_says x.now x.lanes x.kept c.args.client c.deref_mut.result.now c.index-deref_mut-client.result a.0 c.deref_mut.ensures.value c.args.units (grind arith) (grind arith) (omega (arith, w))
+          c.enter.result c.enter.ensures.answers;
+      leaves = submit_leaves x.now x.lanes x.kept c.args.client c.deref_mut.result.now c.index-deref_mut-client.result a.0 c.deref_mut.ensures.value c.args.units (grind arith) (grind arith) (omega (arith, w))
+          c.args.label c.enter.new.self c.enter.ensures.leaves;
     }

@@ -1,26 +1,23 @@
-use Rattle.std.proofs.Common.{ℕ, ◌-◌, ◌≤◌, sym, ap, ◌∙◌, subst, arith}
-use Rattle.credits.specs.Shares.{steps, caps}
-use Rattle.credits.proofs.Bookings.{front_is, front_caps, share_ranged, latency_word}
+use Rattle.std.proofs.Common.{sym, arith}
+use Rattle.credits.proofs.Bookings.{Passes, latency_word, told}
 use Rattle.credits.proofs.booking.CreditBooking.next_terms.Goals as goal
 
-pub caps-requires : goal.caps-requires
-caps-requires c = let x = c.args.self.now in omega (arith, x.most, front_caps x c.count.result c.count.ensures)
+passes : (c : goal.After-latency_of-latency) → Passes c.args.self.now.server c.args.rate c.args.step c.args.cap
+passes c = record {
+  rated = sym c.if-not-rate_in_range.ensures;
+  ranged = sym c.if-not-share_in_range.ensures;
+  pays = omega (arith, rw (c.from.ensures, c.from-2.ensures) at c.if-from-self.false);
+  room = omega (arith, c.if-step-rest.false, c.rest-rest.ensures);
+}
 
-pub theta-theta-requires : goal.theta-theta-requires
-theta-theta-requires c =
-    let x = c.args.self.now in
-    record {
-      some = omega (arith, (share_ranged x.table.denominator c.args.step c.args.cap (sym c.if-not-share_in_range.ensures)).0);
-      small = omega (arith, x.most, c.caps.ensures, front_caps x c.count.result c.count.ensures);
-    }
+pub overflow_cast-latency : goal.overflow_cast-latency
+overflow_cast-latency c = omega (
+  arith,
+  latency_word c.args.self.now.server c.args.rate c.args.step c.args.cap (passes c) c.rest-rest.result c.caps.result c.div_ceil-theta.result c.latency_of-latency.result
+      c.rest-rest.ensures c.caps.ensures c.div_ceil-theta.ensures c.latency_of-latency.ensures,
+)
 
-pub overflow_cast-result : goal.overflow_cast-result
-overflow_cast-result c =
-    let x = c.args.self.now in
-    let front = front_is x c.count.result c.count.ensures in
-    let room = subst (λ (k : ℕ). c.args.step ≤ x.table.denominator - k) (c.steps.ensures ∙ ap steps front) c.if-step-rest.false in
-    omega (
-      arith,
-      latency_word x c.args.rate c.args.step c.args.cap (sym c.if-not-rate_in_range.ensures) (sym c.if-not-share_in_range.ensures) (omega (arith, c.if-rate-whole.false)) room
-          c.steps.result c.caps.result c.theta-theta.result c.latency_of.result (c.steps.ensures ∙ ap steps front) (c.caps.ensures ∙ ap caps front) c.theta-theta.ensures c.latency_of.ensures,
-    )
+pub returns : goal.returns
+returns c =
+    told c.args.self.now.server c.args.rate c.args.step c.args.cap (passes c) c.rest-rest.result c.caps.result c.div_ceil-theta.result c.latency_of-latency.result
+    c.rest-rest.ensures c.caps.ensures c.div_ceil-theta.ensures c.latency_of-latency.ensures

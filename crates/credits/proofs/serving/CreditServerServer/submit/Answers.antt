@@ -7,13 +7,5 @@ pub invariant_of-self : goal.invariant_of-self
 invariant_of-self c =
     let x = c.args.self.now in
     let m' = meaning c.submit.new.self in
-    let D = x.table.denominator in
-    let b = submitted_balanced (meaning x.clients) m' D x.table.places c.args.client c.args.label c.args.length x.some c.submit.ensures.leaves x.balanced in
-    record {
-      full = x.full;
-      some = x.some;
-      most = x.most;
-      room = balanced_room m' D _ b;
-      capped = balanced_capped m' D _ b;
-      balanced = b;
-    }
+    let b = submitted_balanced (meaning x.clients) m' x.denominator x.shares.items c.args.client _ c.args.length x.some c.submit.ensures.leaves x.balanced in
+    record { some = x.some; most = x.most; room = balanced_room m' x.denominator _ b; capped = balanced_capped m' x.denominator _ b; balanced = b }

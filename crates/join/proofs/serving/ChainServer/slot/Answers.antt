@@ -20,25 +20,29 @@ returns g c =
     let r' = c.slot-came.result in
     let some : 0 < x.clients = search rules in
     let early : x.now < 4294967295 = search rules in
+    let all = slot_all x.clients x.now ss (a.means (a.state x.first)) (b.means (b.state x.second)) x.stands some early (g.met.A.Server.lawful x.first) r r'
+    (a.means (a.state m')) (b.means (b.state n')) (b.means (b.state n'')) c.slot-left.ensures.serves c.slot-came.ensures.serves c.hand.ensures.leaves
+    c.tell-told.result ss' ss'' c.tell-told.ensures.answers c.tell-told.ensures.leaves c.note.ensures in
     record {
-      serves = λ s. (
-        early,
-        (slot_all x.clients x.now ss (a.means (a.state x.first)) (b.means (b.state x.second)) s.2 some early (g.met.A.Server.lawful x.first s.0) r r'
-            (a.means (a.state m')) (b.means (b.state n')) (b.means (b.state n'')) (c.slot-left.ensures.serves s.1) (c.slot-came.ensures.serves s.0) (c.hand.ensures.leaves (c.slot-left.ensures.stays s.1))
-            c.tell-told.result ss' ss'' c.tell-told.ensures.answers c.tell-told.ensures.leaves c.note.ensures).0,
-      );
-      stays = λ s. (
-        c.slot-came.ensures.stays s.0,
-        c.hand.ensures.stays (c.slot-left.ensures.stays s.1),
-        (slot_all x.clients x.now ss (a.means (a.state x.first)) (b.means (b.state x.second)) s.2 some early (g.met.A.Server.lawful x.first s.0) r r'
-            (a.means (a.state m')) (b.means (b.state n')) (b.means (b.state n'')) (c.slot-left.ensures.serves s.1) (c.slot-came.ensures.serves s.0) (c.hand.ensures.leaves (c.slot-left.ensures.stays s.1))
-            c.tell-told.result ss' ss'' c.tell-told.ensures.answers c.tell-told.ensures.leaves c.note.ensures).1,
-      );
-      exactly = λ s k.
-          let l = c.slot-left.ensures.exactly s.1 k.1 in
-          let f = c.slot-came.ensures.exactly s.0 k.0 in
-          let h = c.hand.ensures.exactly (c.slot-left.ensures.stays s.1) k.1 in (
+      serves = (early, all.0);
+      exactly = λ k.
+          let l = c.slot-left.ensures.exactly k.1 in
+          let f = c.slot-came.ensures.exactly k.0 in
+          let h = c.hand.ensures.exactly k.1 in (
             exact_says a.means b.means a.machine b.machine (state_of a b x) early some c.tell-told.result r c.tell-told.ensures.answers l.0,
             exact_next a.means b.means a.machine b.machine (state_of a b x) early some (a.state m') (b.state n') (b.state n'') ss' ss'' r r' l.0 l.1 c.tell-told.ensures.leaves f.0 f.1 c.note.ensures h,
           );
+    }
+
+pub invariant_of-self-2 : goal.invariant_of-self-2
+invariant_of-self-2 g c =
+    let x = c.args.self.now in
+    let a = g.A.Server in
+    let b = g.B.Server in
+    let some : 0 < x.clients = search rules in
+    let early : x.now < 4294967295 = search rules in
+    record {
+      stands = (slot_all x.clients x.now (starts_in x.starts) (a.means (a.state x.first)) (b.means (b.state x.second)) x.stands some early (g.met.A.Server.lawful x.first) c.slot-left.result c.slot-came.result
+          (a.means (a.state c.slot-came.new.self)) (b.means (b.state c.slot-left.new.self)) (b.means (b.state c.hand.new.second)) c.slot-left.ensures.serves c.slot-came.ensures.serves c.hand.ensures.leaves
+          c.tell-told.result (starts_in c.tell-told.new.self) (starts_in c.note.new.self) c.tell-told.ensures.answers c.tell-told.ensures.leaves c.note.ensures).1;
     }

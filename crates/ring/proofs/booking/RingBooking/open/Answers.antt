@@ -1,33 +1,34 @@
-use Rattle.std.proofs.Common.{◌≡◌, ℕ, ◌-◌, ◌≤◌, false, replicate, sym, refl, ap, subst, arith, rules}
+use Rattle.std.proofs.Common.{◌≡◌, ℕ, ◌-◌, ◌≤◌, length, sym, ap, ◌∙◌, subst, arith}
+use Rattle.std.proofs.lemmas.List.{length-map}
+use mathlib.Core.Logic.{∥∥₁_elim}
+use native.Mathlib.Bridge.{le_prop}
 use Rattle.server.specs.Meaning.{Meaning}
 use Rattle.server.specs.Laws.{Unused}
+use Rattle.clients.specs.Meant.{meaning}
 use Rattle.ring.specs.declared.turns.Ring.{Ring}
 use Rattle.ring.specs.Sums.{sum}
-use Rattle.ring.specs.Shares.{quantum_in}
+use Rattle.ring.specs.Shares.{count_in}
+use Rattle.ring.specs.Turns.{quantum_of, client_of}
 use Rattle.ring.specs.Search.{Sound}
-use Rattle.ring.specs.States.{first_clients}
-use Rattle.ring.proofs.Reservations.{sound_first, unused_first}
+use Rattle.ring.specs.States.{fresh_place, fresh_ring}
+use Rattle.ring.proofs.Reservations.{within_first, sound_first, unused_first}
 use Rattle.ring.proofs.booking.RingBooking.open.Goals as goal
 
 pub invariant_of-result : goal.invariant_of-result
 invariant_of-result c =
     let b = c.args.self in
     let s = b.shares in
-    let clients = c.admitted-clients.ensures in
-    let turn : c.saturating_sub-turn.result ≡ s.count - 1 = c.saturating_sub-turn.ensures in
-    let ring : ℕ → Ring = λ t. record { total = s.total; quanta = s.quanta; deficits = replicate 8 0; turn = t; opened = false } in
+    let clients = c.admitted.ensures in
+    let ring = c.fresh_ring.ensures in
+    let count = sym (ap (λ (m : Meaning). m.count) clients) in
+    let turn : client_of c.fresh_ring.result.turn ≡ count_in s - 1 = ap (λ (r : Ring). client_of r.turn) ring in
     record {
-      full = (b.full.1, refl);
-      placed = omega (arith, turn, b.few);
-      within = subst (λ (n : ℕ). sum n (quantum_in s) ≤ s.total) (sym (ap (λ (m : Meaning). m.count) clients)) b.within;
-      sound = ∣ subst (λ (m : Meaning). Sound m (ring c.saturating_sub-turn.result)) (sym clients)
-          (subst (λ (t : ℕ). Sound (first_clients s s.count) (ring t)) (sym turn) (sound_first s b.few b.within b.carried)) ∣₁;
+      full = ap (λ (r : Ring). length r.places.items) ring ∙ length-map s.reserved.items fresh_place ∙ count;
+      placed = ∥∥₁_elim c.admitted.result.kept le_prop (λ k. omega (arith, k.eight, count, turn));
+      within = subst (λ (r : Ring). sum (meaning c.admitted.result).count (quantum_of r) ≤ r.total) (sym ring)
+          (subst (λ (n : ℕ). sum n (quantum_of (fresh_ring s)) ≤ s.total) count (within_first b));
+      sound = ∣ subst (λ (r : Ring). Sound (meaning c.admitted.result) r) (sym ring) (subst (λ (m : Meaning). Sound m (fresh_ring s)) (sym clients) (sound_first b)) ∣₁;
     }
 
-pub returns : goal.returns
-returns c =
-    let b = c.args.self in
-    record {
-      state = search rules;
-      unused = ∣ subst Unused (sym c.admitted-clients.ensures) (unused_first b.shares b.few b.within b.carried) ∣₁;
-    }
+pub returns-clause-unused : goal.returns-clause-unused
+returns-clause-unused c = ∣ subst Unused (sym c.admitted.ensures) (unused_first c.args.self) ∣₁

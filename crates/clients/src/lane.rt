@@ -1,0 +1,78 @@
+ghost use Rattle.std.specs.Prelude.{◌≡◌, ◌+◌, ◌*◌, ◌/◌, ◌^◌, ◌<◌, min, length};
+ghost use Rattle.server.specs.Calls.{entered, gone, serve as served, start_at, view_of};
+ghost use Rattle.clients.specs.View.{client_of, new_client};
+
+use arrayvec::ArrayVec;
+use server::block::{Block, Departure, Served};
+use server::rate::Terms;
+use server::view::View;
+
+// One client: what it reserved, its clock in ticks, and its waiting blocks, oldest first.
+#[derive(Default, Drop)]
+pub struct Lane {
+    pub(crate) terms: Terms,
+    pub(crate) clock: u64,
+    pub(crate) queue: ArrayVec<Block, 8>,
+}
+
+impl Lane {
+    // A client of these terms, with nothing waiting.
+    pub(crate) fn new(terms: Terms) -> Lane
+        ensures { client_of result ≡ new_client terms }
+    {
+        Lane {
+            terms,
+            ..Lane::default()
+        }
+    }
+
+    pub(crate) fn view(&self) -> View
+        ensures { result ≡ view_of (client_of self.now) }
+    {
+        View {
+            terms: self.terms,
+            clock: self.clock,
+            waiting: self.queue.len() as u8,
+        }
+    }
+
+    // A block enters at this slot: its due.
+    pub(crate) fn enter(&mut self, label: u32, units: u8, slot: u32) -> u64
+        requires room { length (client_of self.old).waiting < 8 }
+        requires small { start_at slot (client_of self.old) + (client_of self.old).terms.rate.q * units < 2 ^ 64 }
+        ensures answers { result ≡ min (start_at slot (client_of self.old) + (client_of self.old).terms.latency) 18446744073709551615 / (client_of self.old).terms.rate.p }
+        ensures leaves { client_of self.new ≡ entered slot label units (client_of self.old) }
+    {
+        let rate = self.terms.rate;
+        let start = rate.start_at(self.clock, slot);
+        self.clock = start + u64::from(rate.q) * u64::from(units);
+        self.queue.push(Block {
+            label,
+            length: units,
+            left: units,
+            start,
+        });
+        self.terms.due(start)
+    }
+
+    // One unit of the front block goes, which is the client's of this number.
+    pub(crate) fn serve(&mut self, client: u8) -> Served
+        ensures answers { result ≡ gone client (client_of self.old).waiting }
+        ensures leaves { client_of self.new ≡ served (client_of self.old) }
+    {
+        let Some(front) = self.queue.first().copied() else {
+            return Served::Nothing;
+        };
+        if front.left > 1 {
+            self.queue[0].left = front.left - 1;
+            return Served::Unit(client);
+        }
+        self.queue.remove(0);
+        Served::Departed(Departure {
+            client,
+            label: front.label,
+            length: front.length,
+            start: front.start,
+        })
+    }
+}

@@ -1,0 +1,16 @@
+use Rattle.server.specs.Calls.{view_of}
+use Rattle.server.proofs.Grants.{asked_known}
+use Rattle.join.specs.Starts.{starts_in}
+use Rattle.join.specs.Link.{chained}
+use Rattle.join.proofs.Submits.{view_both}
+use Rattle.join.proofs.serving.ChainServer.view.Goals as goal
+
+pub returns : goal.returns
+returns g c =
+    let x = c.args.self.now in
+    let m = g.A.Server.means (g.A.Server.state x.first) in
+    let n = g.B.Server.means (g.B.Server.state x.second) in
+    let ss = starts_in x.starts in
+    asked_known (chained x.clients x.now ss m n) c.args.client _ view_of c.if-client-self.false
+    (view_both x.clients x.now ss m n x.stands c.args.client c.if-client-self.false c.in_ok-first.first c.in_ok-second.second c.in_ok-first.ensures c.in_ok-second.ensures
+    c.saturating_add.result c.saturating_add-2.result c.saturating_add.ensures c.saturating_add-2.ensures)

@@ -1,0 +1,9 @@
+// What tests of servers share: runs of slots written as letters, and tables of submissions.
+// A run is one letter a slot: a full stop where nothing went, a digit for a unit of that client, a capital
+// for a block's last unit. What plays a run answers `Ok` only where the server did as the run says.
+#![tactic(auto)]
+
+pub mod letters;
+pub mod playing;
+pub mod rates;
+pub mod submission;
