@@ -86,35 +86,37 @@ written_is t v c ls l d f known same e =
 
 -- ## A submission
 
-module _ (t : ℕ) (v : ArrayVec Lane) (kept : ∥ Kept (viewed t v) ∥₁) (c : ℕ) (ls : List Lane) (d : Lane) (known : c < length v.items) (same : ls ≡ v.items) where
+module _ (t : ℕ) (v : ArrayVec Lane) (c : ℕ) (ls : List Lane) (d : Lane) (known : c < length v.items) (same : ls ≡ v.items) where
   abbrev x : Client
   x = client_in v.items c
 
   here : client_of (get_or ls c d) ≡ x
   here = ap (λ (ys : List Lane). client_of (get_or ys c d)) same ∙ sym (lane_is v.items c d known)
 
-  held : ∥ Held t x ∥₁
-  held = ∥∥₁_map kept (λ g. g.each c known)
+  module _ (kept : ∥ Kept (viewed t v) ∥₁) where
+    held : ∥ Held t x ∥₁
+    held = ∥∥₁_map kept (λ g. g.each c known)
 
-  early : t < 4294967296
-  early = ∥∥₁_elim kept le_prop (λ g. g.counted)
+    early : t < 4294967296
+    early = ∥∥₁_elim kept le_prop (λ g. g.counted)
 
-  start_small : start_at t x < 2 ^ 52
-  start_small = ∥∥₁_elim held le_prop (λ h.
-      let a : x.terms.rate.p * t ≤ 1024 * 4294967296 = mul-le-mul {n₂ = 1024} {m₂ = 4294967296} (omega (arith, h.ranged.rate, h.ranged.small)) (omega (arith, early)) in
-      omega (arith, a, clock_small t x early h))
+    start_small : start_at t x < 2 ^ 52
+    start_small = ∥∥₁_elim held le_prop (λ h.
+        let a : x.terms.rate.p * t ≤ 1024 * 4294967296 = mul-le-mul {n₂ = 1024} {m₂ = 4294967296} (omega (arith, h.ranged.rate, h.ranged.small)) (omega (arith, early)) in
+        omega (arith, a, clock_small t x early h))
 
-  pub enter_small : (len : ℕ) → len ≤ 16 → start_at t (client_of (get_or ls c d)) + (client_of (get_or ls c d)).terms.rate.q * len < 2 ^ 64
-  enter_small len few =
-      let b : x.terms.rate.q * len ≤ 1024 * 16 = ∥∥₁_elim held le_prop (λ h. mul-le-mul {n₂ = 1024} {m₂ = 16} h.ranged.small few) in
-      subst (λ (y : Client). start_at t y + y.terms.rate.q * len < 2 ^ 64) (sym here) (omega (arith, b, start_small))
+    pub enter_small : (len : ℕ) → len ≤ 16 → start_at t (client_of (get_or ls c d)) + (client_of (get_or ls c d)).terms.rate.q * len < 2 ^ 64
+    enter_small len few =
+        let b : x.terms.rate.q * len ≤ 1024 * 16 = ∥∥₁_elim held le_prop (λ h. mul-le-mul {n₂ = 1024} {m₂ = 16} h.ranged.small few) in
+        subst (λ (y : Client). start_at t y + y.terms.rate.q * len < 2 ^ 64) (sym here) (omega (arith, b, start_small))
 
   module _ (len : ℕ) (some : 0 < len) (few : len ≤ 16) (room : length x.waiting < 8) where
-    pub submit_says : (due : ℕ) → due ≡ min (start_at t (client_of (get_or ls c d)) + (client_of (get_or ls c d)).terms.latency) 18446744073709551615 / (client_of (get_or ls c d)).terms.rate.p
+    pub submit_says : ∥ Kept (viewed t v) ∥₁ → (due : ℕ)
+        → due ≡ min (start_at t (client_of (get_or ls c d)) + (client_of (get_or ls c d)).terms.latency) 18446744073709551615 / (client_of (get_or ls c d)).terms.rate.p
         → ◌≡◌ {A = DueAnswer} (Ok due) (granting (viewed t v) c len)
-    submit_says due e =
-        let late : x.terms.latency ≤ 4194304 = ∥∥₁_elim held le_prop (λ h. h.ranged.most) in
-        let fits : min (start_at t x + x.terms.latency) 18446744073709551615 ≡ start_at t x + x.terms.latency = min-eq_left (omega (arith, late, start_small)) in
+    submit_says kept due e =
+        let late : x.terms.latency ≤ 4194304 = ∥∥₁_elim (held kept) le_prop (λ h. h.ranged.most) in
+        let fits : min (start_at t x + x.terms.latency) 18446744073709551615 ≡ start_at t x + x.terms.latency = min-eq_left (omega (arith, late, start_small kept)) in
         let due-is : due ≡ due_of x (start_at t x) = e ∙ ap (λ (y : Client). min (start_at t y + y.terms.latency) 18446744073709551615 / y.terms.rate.p) here ∙ ap (λ (k : ℕ). k / x.terms.rate.p) fits in
         let ok : ℕ → DueAnswer = λ k. Ok k in
         ap ok due-is ∙ sym (granting_is (viewed t v) c len (grants (viewed t v) c len known some few room))

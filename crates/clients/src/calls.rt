@@ -42,6 +42,7 @@ impl Clients {
     pub fn count(&self) -> u8
         ensures { result ≡ (meaning self.entry.now).count }
     {
+        // At most eight.
         self.lanes.len() as u8
     }
 

@@ -32,6 +32,7 @@ impl Lane {
         View {
             terms: self.terms,
             clock: self.clock,
+            // At most eight.
             waiting: self.queue.len() as u8,
         }
     }

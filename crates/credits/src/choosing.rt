@@ -13,6 +13,7 @@ impl CreditServer {
         if byte == 0 {
             None
         } else {
+            // At most seven, since a bit is set.
             Some(byte.trailing_zeros() as u8)
         }
     }
@@ -22,6 +23,7 @@ impl CreditServer {
         ensures { result ≡ byte_of (by_place (eligible_in (meaning self.now.clients) self.now.denominator) 0 self.now.shares.items) }
     {
         let mut byte = 0u8;
+        // At most eight places, so each is a client's number.
         for (place, share) in self.shares.iter().enumerate() {
             if self.clients.waits(place as u8) && share.affords(self.denominator) {
                 byte |= 1 << place;

@@ -15,6 +15,7 @@ impl CreditServer {
         // A loop, since `collect` would answer that the items may not fit, which cannot be.
         let mut shares = ArrayVec::new();
         for (place, share) in self.shares.iter().enumerate() {
+            // At most eight places, so each is a client's number.
             let client = place as u8;
             let waiting = self.clients.waits(client);
             shares.push(share.after(self.denominator, waiting, who == Some(client)));

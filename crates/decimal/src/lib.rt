@@ -9,12 +9,12 @@ ghost use Rattle.std.specs.Char.{is_ascii_digit};
 ghost use Rattle.std.specs.List.{list_all};
 ghost use Rattle.std.specs.Str.{all_ascii_digits};
 
-use arrayvec::ArrayString;
+use arrayvec::ArrayVec;
 use itoa::Buffer;
 use std::str;
 
 /// A text of at most ten bytes.
-pub type Text = ArrayString<10>;
+pub type Text = ArrayVec<u8, 10>;
 
 /// Whether a text is nothing but digits.
 fn is_digits(text: &[u8]) -> bool
@@ -47,9 +47,8 @@ pub fn read(text: &[u8], most: u32) -> Option<u32>
 
 /// The digits of a number.
 pub fn write(number: u32) -> Text
-    ensures { result.bytes ≡ decimal number }
+    ensures { result.items ≡ decimal number }
 {
-    let mut text = Text::new();
-    text.push_str(Buffer::new().format(number));
-    text
+    // A number has at most ten digits.
+    Text::try_from(Buffer::new().format(number).as_bytes()).unwrap()
 }

@@ -1,6 +1,6 @@
 -- The calls keep a frame's clients on time, and so within the laws.
 use Rattle.std.specs.Prelude.{◌≡◌, ℕ, suc, ◌+◌, ◌*◌, ◌<◌, ◌≤◌, Bool, true, false, ◌&&◌, ltb, ◌≢◌, List, length, Some, None, Option, ◌==◌, nat_lt, refl}
-use Rattle.std.proofs.Common.{sym, ap, subst, ◌∙◌, ⊎_elim, arith, mul-add, ltb-true, ltb-false, eq-eqb, ne_eqb, lt-ltb}
+use Rattle.std.proofs.Common.{sym, ap, subst, ◌∙◌, ⊎_elim, arith, mul-add, mul-le-mul, ltb-true, ltb-false, eq-eqb, ne_eqb, lt-ltb}
 use Rattle.std.proofs.lemmas.Bool.{cases_eq, and_parts, cond-true, cond-false, cond_both}
 use Rattle.server.specs.declared.rate.Rate.{Rate}
 use Rattle.server.specs.declared.rate.Terms.{Terms}
@@ -10,9 +10,9 @@ use Rattle.server.specs.Laws.{ClientLaws, Lawful}
 use Rattle.server.proofs.Meanings.{at_elim}
 use Rattle.clients.specs.Held.{Held, Kept, reach, latency_for}
 use Rattle.clients.specs.View.{new_client}
-use Rattle.clients.specs.Serving.{rate_ok, admitted, waits, served_client, goes_on, slot_leaves}
+use Rattle.clients.specs.Serving.{rate_ok, terms_ok, admitted, waits, served_client, goes_on, slot_leaves}
 use Rattle.clients.proofs.Clients.{reach_entered, reach_ticked, reach_gone, reach_empty, laws_on_time}
-use Rattle.clients.proofs.Kept.{rate_ranged, admitted_elim, admitted_now}
+use Rattle.clients.proofs.Kept.{rate_ranged, ranged_terms, admitted_elim, admitted_now}
 use Rattle.frame.specs.Frames.{owner_at, mine, owned, window, theta}
 use Rattle.frame.specs.Paced.{Share, Paced}
 use Rattle.frame.specs.Windows.{window_first, window_holds}
@@ -128,3 +128,16 @@ module _ (m : Meaning) (os : List (Option ℕ)) (some : 1 ≤ length os) where
       let terms : Terms = record { rate = x; latency = latency_for x.p x.q (theta m.count os) } in
       λ k l. subst (λ (t : ℕ). Share os t k ((admitted m terms).client k)) (sym (admitted_now m terms))
       (admitted_elim (Share os m.now) m terms (share_new os some m.now m.count terms (rate_ranged x ok).1 enough refl) h k l)
+
+module _ (m : Meaning) (os : List (Option ℕ)) (some : 1 ≤ length os) (most : length os ≤ 256) (x : Rate) (ok : rate_ok x ≡ true) where
+  abbrev terms : Terms
+  terms = record { rate = x; latency = latency_for x.p x.q (theta m.count os) }
+
+  pub latency_fits : latency_for x.p x.q (theta m.count os) ≤ 4194304
+  latency_fits =
+      let r = rate_ranged x ok in
+      omega (arith, r.0, r.1, r.2, mul-le-mul {n₂ = 1024} {m₂ = 256} (let l : x.p ≤ 1024 = omega arith in l) (let l : theta m.count os ≤ 256 = omega arith in l))
+
+  -- so no rate in range is turned away for its latency
+  pub terms_fit : terms_ok terms ≡ true
+  terms_fit = ranged_terms terms ok (omega (arith, (rate_ranged x ok).1)) latency_fits

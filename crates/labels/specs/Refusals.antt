@@ -1,6 +1,6 @@
 -- The number of a label's refusal, and what a written label tells.
 use Rattle.std.specs.Prelude.{ℕ, List, Some, None, Ok, Err, Option, Result}
-use Rattle.arrayvec.specs.ArrayString.{ArrayString}
+use Rattle.arrayvec.specs.ArrayVec.{ArrayVec}
 use Rattle.labels.specs.declared.refusal.LabelRefusal.TheVariants.{NoText}
 use Rattle.labels.specs.declared.refusal.LabelRefusal.{LabelRefusal}
 
@@ -9,6 +9,6 @@ abbrev pub refusal_number : LabelRefusal → ℕ
 refusal_number NoText = 17
 
 -- the bytes of a label that was written, or none where it was turned away
-abbrev pub told : Result ArrayString LabelRefusal → Option (List ℕ)
-told (Ok text) = Some text.bytes
+abbrev pub told : Result (ArrayVec ℕ) LabelRefusal → Option (List ℕ)
+told (Ok text) = Some text.items
 told (Err refusal) = None

@@ -91,8 +91,9 @@ impl LabelKind for Packet {
             return Err(LabelRefusal::NoText);
         }
         let mut text = decimal::write(code / 16384);
-        text.push_str(".");
-        text.push_str(decimal::write(code % 16384).as_str());
+        text.push(b'.');
+        text.try_extend_from_slice(&decimal::write(code % 16384))
+            .unwrap();
         Ok(text)
     }
 }

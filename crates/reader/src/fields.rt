@@ -65,6 +65,7 @@ impl<'a> Fields<'a> {
         ensures left { fields_left self.new ≡ other_fields (fields_left self.old) }
         ensures number { field_number self.new ≡ after_field (field_number self.old) }
     {
+        // At most 255, which `number` keeps to.
         Ok(self.number(255)? as u8)
     }
 

@@ -30,7 +30,7 @@ impl<'a> Reader<'a> {
         ensures after { left self.new ≡ after_line (left self.old) }
     {
         let (line, rest) = marks::split_once(self.bytes, b'\n')?;
-        self.bytes = rest;
+        *self = Reader::new(rest);
         Some(line)
     }
 }

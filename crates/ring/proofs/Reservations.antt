@@ -110,30 +110,27 @@ latency_small p q φ total count rate small least most enough few =
         let t : p * (count - 1) ≤ 1024 * 7 = mul-le-mul {n₂ = 1024} {m₂ = 7} (omega arith) (omega arith) in
         omega arith
 
-module _ (b : RingBooking) where
-  abbrev s : Shares
-  s = b.shares
-
+module _ (s : Shares) (within : sum (count_in s) (quantum_in s) ≤ s.total) (carried : (k : ℕ) → k < count_in s → Carried s k) where
   -- a quantum is within its range and within the total
   quantum_ranged : (k : ℕ) → k < count_in s → (16 ≤ quantum_in s k) × (quantum_in s k ≤ 1024) × (quantum_in s k ≤ s.total)
   quantum_ranged k l =
-      let a = and_parts (leb 16 (quantum_in s k)) (leb (quantum_in s k) 1024) (b.carried k l).1 in
-      (leb-true 16 (quantum_in s k) a.0, leb-true (quantum_in s k) 1024 a.1, omega (arith, others_split (count_in s) k (quantum_in s) l, b.within))
+      let a = and_parts (leb 16 (quantum_in s k)) (leb (quantum_in s k) 1024) (carried k l).1 in
+      (leb-true 16 (quantum_in s k) a.0, leb-true (quantum_in s k) 1024 a.1, omega (arith, others_split (count_in s) k (quantum_in s) l, within))
 
   rate-carried : (k : ℕ) → k < count_in s → (rate_in s k).p * s.total ≤ quantum_in s k * (rate_in s k).q
-  rate-carried k l = leb-true ((rate_in s k).p * s.total) (quantum_in s k * (rate_in s k).q) (b.carried k l).2
+  rate-carried k l = leb-true ((rate_in s k).p * s.total) (quantum_in s k * (rate_in s k).q) (carried k l).2
 
   latency_most : count_in s ≤ 8 → (k : ℕ) → k < count_in s → (terms_in s k).latency ≤ 4194304
   latency_most few k l =
-      let r = rate_ranged (rate_in s k) (b.carried k l).0 in
+      let r = rate_ranged (rate_in s k) (carried k l).0 in
       let q = quantum_ranged k l in
       latency_small (rate_in s k).p (rate_in s k).q (quantum_in s k) s.total (count_in s) r.1 r.2 q.0 q.1 (rate-carried k l) few
 
   -- so no reserved client is turned away for its latency
   terms-ok : count_in s ≤ 8 → (k : ℕ) → k < count_in s → terms_ok (terms_in s k) ≡ true
   terms-ok few k l =
-      let r = rate_ranged (rate_in s k) (b.carried k l).0 in
-      ranged_terms (terms_in s k) (b.carried k l).0
+      let r = rate_ranged (rate_in s k) (carried k l).0 in
+      ranged_terms (terms_in s k) (carried k l).0
       (omega (arith, r.1)) (latency_most few k l)
 
   -- ## Opening
@@ -224,7 +221,7 @@ module _ (b : RingBooking) where
   quantum-first k = ap (λ (p : Place). p.quantum) (place-first k)
 
   pub within_first : sum (count_in s) (quantum_of r₀) ≤ s.total
-  within_first = omega (arith, b.within, sum_le (count_in s) (quantum_of r₀) (quantum_in s) (λ k l. omega (arith, quantum-first k)))
+  within_first = omega (arith, within, sum_le (count_in s) (quantum_of r₀) (quantum_in s) (λ k l. omega (arith, quantum-first k)))
 
   each_first : (k : ℕ) → k < count_in s → Share (count_in s) s.total (quantum_of r₀ k) (deficit_of r₀ k) false (m₀.client k)
   each_first k l =

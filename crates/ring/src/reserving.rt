@@ -54,6 +54,7 @@ impl Shares {
         Ring {
             total: self.total,
             places,
+            // At most eight are reserved.
             turn: Turn::Closed(self.reserved.len().saturating_sub(1) as u8),
         }
     }
@@ -129,6 +130,7 @@ impl RingBooking {
     {
         let shares = &self.shares;
         let turns = (shares.total - quantum) * (quantum + 15);
+        // At most eight are reserved.
         let others = shares.reserved.len().saturating_sub(1) as u32;
         turns.div_ceil(quantum) + others * 15
     }

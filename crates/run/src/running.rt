@@ -1,19 +1,12 @@
 // The calls of a run, one after the other.
-ghost use Rattle.std.specs.Prelude.{◌≡◌, ◌-◌, ◌≤◌, max, [], ◌∷◌, ◌++◌, length};
-ghost use Rattle.server.specs.Laws.{Unused};
-ghost use Rattle.book.specs.declared.calls.Call.TheVariants.{Submit};
-ghost use Rattle.book.specs.Runs.{history, ending};
-ghost use Rattle.run.specs.Calls.{order_of, slots, calls_from};
-ghost use Rattle.run.specs.Logs.{latency_lines, log_of};
-ghost use Rattle.run.specs.Kept.{LogKept};
+ghost use Rattle.std.specs.Prelude.{◌≡◌, [], ◌∷◌};
 ghost use Rattle.run.specs.Runs.{Ran};
 
-use crate::noting::{latency_line, line_of};
+use crate::noting::line_of;
 use arrayvec::ArrayVec;
-use book::calls::{Call, Order};
+use book::calls::Call;
 use book::driving::make;
-use lines::Request;
-use logs::{DepartureLine, Line};
+use logs::Line;
 use server::server::Server;
 
 /// Makes one call and writes its line, if it has one.

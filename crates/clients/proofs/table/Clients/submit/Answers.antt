@@ -14,7 +14,7 @@ enter-requires-clause-small c =
     let x = c.args.self.now in
     let a = asked_ok (viewed x.now x.lanes) c.args.client c.in_ok-view.view view_of c.in_ok-view.ensures in
     let h : c.args.units ≤ 16 = grind arith in
-    enter_small x.now x.lanes x.kept c.args.client c.deref_mut.result.now c.index-deref_mut-client.result a.0 c.deref_mut.ensures.value c.args.units h
+    enter_small x.now x.lanes c.args.client c.deref_mut.result.now c.index-deref_mut-client.result a.0 c.deref_mut.ensures.value x.kept c.args.units h
 
 pub invariant_of-self : goal.invariant_of-self
 invariant_of-self c =
@@ -22,7 +22,7 @@ invariant_of-self c =
     let m = viewed x.now x.lanes in
     let a = asked_ok m c.args.client c.in_ok-view.view view_of c.in_ok-view.ensures in
     let w = ap (λ (v : View). v.waiting) a.1 in
-    let e = submit_leaves x.now x.lanes x.kept c.args.client c.deref_mut.result.now c.index-deref_mut-client.result a.0 c.deref_mut.ensures.value c.args.units (grind arith) (grind arith) (omega (arith, w))
+    let e = submit_leaves x.now x.lanes c.args.client c.deref_mut.result.now c.index-deref_mut-client.result a.0 c.deref_mut.ensures.value c.args.units (grind arith) (grind arith) (omega (arith, w))
     c.args.label c.enter.new.self c.enter.ensures.leaves in
     record { kept = ∥∥₁_map x.kept (λ g. subst Kept (sym e) (kept_submitted m c.args.client c.args.label c.args.units g)) }
 
@@ -33,8 +33,8 @@ returns c =
     let a = asked_ok m c.args.client c.in_ok-view.view view_of c.in_ok-view.ensures in
     let w = ap (λ (v : View). v.waiting) a.1 in
     record {
-      answers = submit_says x.now x.lanes x.kept c.args.client c.deref_mut.result.now c.index-deref_mut-client.result a.0 c.deref_mut.ensures.value c.args.units (grind arith) (grind arith) (omega (arith, w))
-          c.enter.result c.enter.ensures.answers;
-      leaves = submit_leaves x.now x.lanes x.kept c.args.client c.deref_mut.result.now c.index-deref_mut-client.result a.0 c.deref_mut.ensures.value c.args.units (grind arith) (grind arith) (omega (arith, w))
+      answers = submit_says x.now x.lanes c.args.client c.deref_mut.result.now c.index-deref_mut-client.result a.0 c.deref_mut.ensures.value c.args.units (grind arith) (grind arith) (omega (arith, w))
+          x.kept c.enter.result c.enter.ensures.answers;
+      leaves = submit_leaves x.now x.lanes c.args.client c.deref_mut.result.now c.index-deref_mut-client.result a.0 c.deref_mut.ensures.value c.args.units (grind arith) (grind arith) (omega (arith, w))
           c.args.label c.enter.new.self c.enter.ensures.leaves;
     }

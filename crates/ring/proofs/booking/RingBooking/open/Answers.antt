@@ -26,9 +26,9 @@ invariant_of-result c =
       full = ap (λ (r : Ring). length r.places.items) ring ∙ length-map s.reserved.items fresh_place ∙ count;
       placed = ∥∥₁_elim c.admitted.result.kept le_prop (λ k. omega (arith, k.eight, count, turn));
       within = subst (λ (r : Ring). sum (meaning c.admitted.result).count (quantum_of r) ≤ r.total) (sym ring)
-          (subst (λ (n : ℕ). sum n (quantum_of (fresh_ring s)) ≤ s.total) count (within_first b));
-      sound = ∣ subst (λ (r : Ring). Sound (meaning c.admitted.result) r) (sym ring) (subst (λ (m : Meaning). Sound m (fresh_ring s)) (sym clients) (sound_first b)) ∣₁;
+          (subst (λ (n : ℕ). sum n (quantum_of (fresh_ring s)) ≤ s.total) count (within_first s b.within b.carried));
+      sound = ∣ subst (λ (r : Ring). Sound (meaning c.admitted.result) r) (sym ring) (subst (λ (m : Meaning). Sound m (fresh_ring s)) (sym clients) (sound_first s b.within b.carried)) ∣₁;
     }
 
 pub returns-clause-unused : goal.returns-clause-unused
-returns-clause-unused c = ∣ subst Unused (sym c.admitted.ensures) (unused_first c.args.self) ∣₁
+returns-clause-unused c = let b = c.args.self in ∣ subst Unused (sym c.admitted.ensures) (unused_first b.shares b.within b.carried) ∣₁
