@@ -1,5 +1,6 @@
 -- What every scheduler's clients keep through the calls, and that a slot for a chosen client is a slot.
-use Rattle.std.proofs.Common.{◌≡◌, ℕ, ◌+◌, ◌<◌, ◌≤◌, Bool, true, false, cond, ◌&&◌, ltb, leb, List, [], ◌∷◌, length, Some, None, Ok, Err, Option, sym, refl, ap, ◌∙◌, subst, arith, ltb-false, ltb-true, lt-ltb, le-leb, leb-true}
+use Rattle.std.proofs.Common.{◌≡◌, ℕ, ◌+◌, ◌<◌, ◌≤◌, min, Bool, true, false, cond, ◌&&◌, ltb, leb, List, [], ◌∷◌, length, Some, None, Ok, Err, Option, sym, refl, ap, ◌∙◌, subst, arith, ltb-false, ltb-true, lt-ltb, le-leb, leb-true}
+use native.Mathlib.Nat.{min-eq_left}
 use Rattle.std.proofs.lemmas.Bool.{and_parts}
 use Rattle.std.proofs.lemmas.Bool.Decides.{nat_tests}
 use Rattle.server.specs.declared.block.Block.{Block}
@@ -40,6 +41,12 @@ ranged_terms x r l m =
     let a : leb x.rate.p x.latency ≡ true = le-leb x.rate.p x.latency l in
     let b : leb x.latency 4194304 ≡ true = le-leb x.latency 4194304 m in
     simp (r, a, b)
+
+-- a latency within its range fits into 32 bits
+pub terms_whole : (x : Rate) (late : ℕ) → late ≤ 4194304 → ◌≡◌ {A = Terms} (record { rate = x; latency = min late 4294967295 }) (record { rate = x; latency = late })
+terms_whole x late most =
+    let made : ℕ → Terms = λ k. record { rate = x; latency = k } in
+    ap made (min-eq_left (omega (arith, most)))
 
 -- the newcomer's place
 pub admitted_elim : (P : ℕ → Client → Type 0) (m : Meaning) (x : Terms) → P m.count (new_client x) → ((k : ℕ) → k < m.count → P k (m.client k))

@@ -78,13 +78,7 @@ impl Clients {
         ensures answers { result ≡ granting (meaning self.entry.now) client units }
         ensures leaves { meaning self.exit.now ≡ submitted (meaning self.entry.now) client label units }
     {
-        let view = self.view(client)?;
-        if !(1..=16).contains(&units) {
-            return Err(Refusal::BadLength);
-        }
-        if view.waiting >= 8 {
-            return Err(Refusal::Full);
-        }
+        self.view(client)?.accept(units)?;
         Ok(self.lanes[client as usize].enter(label, units, self.now))
     }
 

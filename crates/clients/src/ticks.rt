@@ -1,4 +1,4 @@
-ghost use Rattle.std.specs.Prelude.{◌≡◌};
+ghost use Rattle.std.specs.Prelude.{◌≡◌, min};
 ghost use Rattle.clients.specs.Held.{latency_for};
 ghost use Rattle.clients.specs.Serving.{rate_ok, terms_ok};
 
@@ -25,4 +25,15 @@ pub fn latency_of(rate: Rate, theta: u32) -> u64
     ensures { result ≡ latency_for rate.p rate.q theta }
 {
     u64::from(rate.p) * u64::from(theta) + u64::from(rate.q) * 16
+}
+
+// The terms of a client of this rate that is late by at most `theta` slots. No scheduler is so late that its
+// latency would not fit into 32 bits; this call cuts it there, so that it asks nothing of its caller.
+pub fn terms_of(rate: Rate, theta: u32) -> Terms
+    ensures { result ≡ record { rate = rate; latency = min (latency_for rate.p rate.q theta) 4294967295 } }
+{
+    Terms {
+        rate,
+        latency: u32::try_from(latency_of(rate, theta)).unwrap_or(u32::MAX),
+    }
 }

@@ -1,5 +1,5 @@
 -- A reservation: what it answers and leaves, and that the balance is kept.
-use Rattle.std.proofs.Common.{◌≡◌, ℕ, ◌+◌, ◌-◌, ◌*◌, ◌^◌, ◌<◌, ◌≤◌, Bool, true, false, cond, ◌&&◌, ltb, List, [], ◌∷◌, ◌++◌, length, Ok, Err, Result, sym, refl, ap, ◌∙◌, subst, arith, ltb-true, le-ltb, le-leb, leb-true}
+use Rattle.std.proofs.Common.{◌≡◌, ℕ, ◌+◌, ◌-◌, ◌*◌, ◌<◌, ◌≤◌, min, Bool, true, false, cond, ◌&&◌, ltb, List, [], ◌∷◌, ◌++◌, length, Ok, Err, Result, sym, refl, ap, ◌∙◌, subst, arith, ltb-true, le-ltb, le-leb, leb-true}
 use mathlib.Core.Logic.{∥∥₁_map}
 use Rattle.std.specs.Int.{div_ceil}
 use Rattle.std.proofs.lemmas.Bool.{and_parts}
@@ -16,7 +16,7 @@ use Rattle.clients.specs.Held.{latency_for}
 use Rattle.clients.specs.Meant.{meaning}
 use Rattle.clients.specs.View.{new_client}
 use Rattle.clients.specs.Serving.{rate_ok, terms_ok, admits, admission, admitted}
-use Rattle.clients.proofs.Kept.{rate_ranged, ranged_terms, admits_full, unused_admitted}
+use Rattle.clients.proofs.Kept.{rate_ranged, ranged_terms, terms_whole, admits_full, unused_admitted}
 use Rattle.credits.specs.declared.credit_server.CreditServer.{CreditServer}
 use Rattle.credits.specs.declared.shares.Share.{Share}
 use Rattle.credits.specs.Shares.{steps, caps}
@@ -99,21 +99,19 @@ module _ (x : CreditServer) (rate : Rate) (n c : ℕ) where
         let t4 : room_for (state_of x) n ≡ true = has_room in
         simp (t1, t2, t3, t4)
 
-    -- the latency as the code works it out
-    module _ (rest above θ latency : ℕ) (er : rest ≡ x.denominator - steps x.shares.items) (ea : above ≡ caps x.shares.items) (eθ : θ ≡ div_ceil above rest)
-        (el : latency ≡ latency_for rate.p rate.q θ) where
-      latency_is : latency ≡ (next_terms (state_of x) rate).latency
+    -- the terms as the code works them out
+    module _ (rest above θ : ℕ) (er : rest ≡ x.denominator - steps x.shares.items) (ea : above ≡ caps x.shares.items) (eθ : θ ≡ div_ceil above rest) where
+      latency_is : latency_for rate.p rate.q θ ≡ (next_terms (state_of x) rate).latency
       latency_is =
           let g = share_ranged x.denominator n c h.ranged in
-          el ∙ ap (latency_for rate.p rate.q)
+          ap (latency_for rate.p rate.q)
           (eθ ∙ ap (div_ceil above) er ∙ ap (λ (k : ℕ). div_ceil k (x.denominator - steps x.shares.items)) ea
           ∙ sym (theta_ceil (x.denominator - steps x.shares.items) (caps x.shares.items) (omega (arith, g.0, h.room))))
 
-      pub latency_word : latency < 2 ^ 32
-      latency_word = omega (arith, latency_is, latency_fits)
-
-      pub told : Ok (record { rate = rate; latency = latency }) ≡ terms_say (state_of x) rate n c
-      told = ap (λ (k : ℕ). Ok (record { rate = rate; latency = k })) latency_is ∙ terms_told
+      pub told : (made : Terms) → made ≡ record { rate = rate; latency = min (latency_for rate.p rate.q θ) 4294967295 } → Ok made ≡ terms_say (state_of x) rate n c
+      told made e =
+          ap (λ (t : Terms). Ok t) (e ∙ terms_whole rate (latency_for rate.p rate.q θ) (omega (arith, latency_is, latency_fits)))
+          ∙ ap (λ (k : ℕ). Ok (record { rate = rate; latency = k })) latency_is ∙ terms_told
 
     -- all tests but the last
     reserve_tests : (g : Bool) → (◌≡◌ {A = Answer} (cond g (Ok tt) (Err Over)) (cond (rate_ok rate) (cond (share_ok x.denominator n c) (cond (carries x.denominator rate n) (cond (room_for (state_of x) n && g) (Ok tt) (Err Over)) (Err SmallShare)) (Err Range)) (Err BadRate)))

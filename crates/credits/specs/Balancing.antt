@@ -15,7 +15,7 @@ use Rattle.clients.specs.Held.{Kept}
 use Rattle.clients.specs.View.{new_client}
 use Rattle.clients.specs.Serving.{waits, served_client, goes_on, slot_leaves}
 use Rattle.credits.specs.declared.shares.Share.{Share}
-use Rattle.credits.specs.Shares.{steps, caps, credits, no_share, Small, affords, eligible, by_place, lowest, served, chosen, Pays, next_credit, share_after, earned}
+use Rattle.credits.specs.Shares.{steps, caps, credits, no_share, Small, affords, eligible, by_place, lowest, served, chosen, Pays, role, next_credit, share_after, earned}
 use Rattle.credits.specs.Balanced.{Carried, Fits, AllFit, Balanced, Capped}
 use Rattle.credits.specs.Fitting.{MovedFree, MovedPaid, fits_free, fits_after, fits_paid, moved_free, moved_after, moved_paid, fits_entered, fits_new, fits_laws}
 use Rattle.credits.specs.Places.{length_by_place}
@@ -133,11 +133,11 @@ module _ (D : ℕ) (m : Meaning) (some : 1 ≤ D) (kept : Kept m) where
       let known : k < m.count = omega (arith, n) in
       let other : nat_eq k c ≡ false = ne_eqb k c (λ e. omega (arith, e, l)) in
       subst
-      (λ (b : Bool). Fits D (t + 1) R H' C (cond b (serve y) y) (share_after D w b x)
-      × AllFit D (t + 1) (R - x.step) (H' + next_credit D w b x) (C + x.cap) (suc k) (at c serve m.client) (by_place (earned m D (Some c)) (suc k) xs))
+      (λ (b : Bool). Fits D (t + 1) R H' C (cond b (serve y) y) (share_after D (role w b) x)
+      × AllFit D (t + 1) (R - x.step) (H' + next_credit D (role w b) x) (C + x.cap) (suc k) (at c serve m.client) (by_place (earned m D (Some c)) (suc k) xs))
       (sym other) (
         fits_after D t R H C y x some g.0 w H' (no_block k known) mv,
-        after-fit c (R - x.step) (H + x.credit) (C + x.cap) (H' + next_credit D w false x) (suc k) xs (omega arith) (omega (arith, n))
+        after-fit c (R - x.step) (H + x.credit) (C + x.cap) (H' + next_credit D (role w false) x) (suc k) xs (omega arith) (omega (arith, n))
             (moved_after D t R H C y x some g.0 w H' mv) g.1,
       )
 
@@ -153,28 +153,28 @@ module _ (D : ℕ) (m : Meaning) (some : 1 ≤ D) (kept : Kept m) where
   -- client k and those below it after a slot for the client o, where b is whether k is the one
   abbrev Onward : (R H' C k : ℕ) → Share → List Share → Option ℕ → Bool → Type 0
   Onward R H' C k x xs o b =
-      Fits D (t + 1) R H' C (cond b (serve (m.client k)) (m.client k)) (share_after D (waits m k) b x)
-      × AllFit D (t + 1) (R - x.step) (H' + next_credit D (waits m k) b x) (C + x.cap) (suc k) (goes_on m o).client (by_place (earned m D o) (suc k) xs)
+      Fits D (t + 1) R H' C (cond b (serve (m.client k)) (m.client k)) (share_after D (role (waits m k) b) x)
+      × AllFit D (t + 1) (R - x.step) (H' + next_credit D (role (waits m k) b) x) (C + x.cap) (suc k) (goes_on m o).client (by_place (earned m D o) (suc k) xs)
 
   onward : (R H' C k : ℕ) (x : Share) (xs : List Share) (o : Option ℕ) (b : Bool) → chosen o k ≡ b → Onward R H' C k x xs o b
       → AllFit D (t + 1) R H' C k (goes_on m o).client (by_place (earned m D o) k (x ∷ xs))
   onward R H' C k x xs o b e g =
       let h : Onward R H' C k x xs o (chosen o k) = subst (Onward R H' C k x xs o) (sym e) g in
-      (subst (λ (z : Client). Fits D (t + 1) R H' C z (share_after D (waits m k) (chosen o k) x)) (sym (client-on o k)) h.0, h.1)
+      (subst (λ (z : Client). Fits D (t + 1) R H' C z (share_after D (role (waits m k) (chosen o k)) x)) (sym (client-on o k)) h.0, h.1)
 
   -- the clients down to the one served
   free-fit : (who : Option ℕ) (R H C H' k : ℕ) (xs : List Share) → who ≡ lowest k (by_place (eligible m D) k xs) → k + length xs ≡ m.count → MovedFree D R H C H'
       → AllFit D t R H C k m.client xs → AllFit D (t + 1) R H' C k (goes_on m who).client (by_place (earned m D who) k xs)
   free-fit who R H C H' k [] e n mv g = mv.0
   free-fit who R H C H' k (x ∷ xs) e n mv g =
-      by (λ z. free-fit who (R - x.step) (H + x.credit) (C + x.cap) (H' + next_credit D (waits m k) false x) (suc k) xs z (omega (arith, n))) (eligible m D k x) refl e
+      by (λ z. free-fit who (R - x.step) (H + x.credit) (C + x.cap) (H' + next_credit D (role (waits m k) false) x) (suc k) xs z (omega (arith, n))) (eligible m D k x) refl e
     where
       known : k < m.count
       known = omega (arith, n)
 
-      by : (who ≡ lowest (suc k) (by_place (eligible m D) (suc k) xs) → MovedFree D (R - x.step) (H + x.credit) (C + x.cap) (H' + next_credit D (waits m k) false x)
+      by : (who ≡ lowest (suc k) (by_place (eligible m D) (suc k) xs) → MovedFree D (R - x.step) (H + x.credit) (C + x.cap) (H' + next_credit D (role (waits m k) false) x)
           → AllFit D t (R - x.step) (H + x.credit) (C + x.cap) (suc k) m.client xs
-          → AllFit D (t + 1) (R - x.step) (H' + next_credit D (waits m k) false x) (C + x.cap) (suc k) (goes_on m who).client (by_place (earned m D who) (suc k) xs))
+          → AllFit D (t + 1) (R - x.step) (H' + next_credit D (role (waits m k) false) x) (C + x.cap) (suc k) (goes_on m who).client (by_place (earned m D who) (suc k) xs))
           → (d : Bool) → eligible m D k x ≡ d → who ≡ cond {A = Option ℕ} d (Some k) (lowest (suc k) (by_place (eligible m D) (suc k) xs))
           → AllFit D (t + 1) R H' C k (goes_on m who).client (by_place (earned m D who) k (x ∷ xs))
       by ih true f z =
@@ -182,7 +182,7 @@ module _ (D : ℕ) (m : Meaning) (some : 1 ≤ D) (kept : Kept m) where
           subst (λ (o : Option ℕ). AllFit D (t + 1) R H' C k (goes_on m o).client (by_place (earned m D o) k (x ∷ xs))) (sym z)
           (onward R H' C k x xs (Some k) true (eq-eqb k k refl) (
             fits_paid D t R H C (m.client k) x some g.0 (waits m k) H' (kept.each k known) (has_block k a.0) a.1 mv,
-            after-fit k (R - x.step) (H + x.credit) (C + x.cap) (H' + next_credit D (waits m k) true x) (suc k) xs (omega arith) (omega (arith, n))
+            after-fit k (R - x.step) (H + x.credit) (C + x.cap) (H' + next_credit D (role (waits m k) true) x) (suc k) xs (omega arith) (omega (arith, n))
                 (moved_paid D t R H C (m.client k) x some g.0 (waits m k) H' a.1 mv) g.1,
           ))
       by ih false f z =

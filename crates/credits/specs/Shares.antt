@@ -2,6 +2,8 @@
 use Rattle.std.specs.Prelude.{◌≡◌, ℕ, suc, ◌+◌, ◌-◌, ◌*◌, ◌/◌, ◌^◌, ◌<◌, ◌≤◌, min, Bool, true, false, cond, ◌&&◌, List, [], ◌∷◌, length, All, sum_by, Some, None, Option, ◌==◌, nat_le, slice_index_or}
 use Rattle.server.specs.Meaning.{Meaning}
 use Rattle.clients.specs.Serving.{waits}
+use Rattle.credits.specs.declared.shares.Role.{Role}
+use Rattle.credits.specs.declared.shares.Role.TheVariants.{Served, Waiting, Idle}
 use Rattle.credits.specs.declared.shares.Share.{Share}
 
 -- ## Sums
@@ -70,15 +72,20 @@ chosen (Some c) k = k == c
 abbrev pub Pays : (denominator : ℕ) → Option ℕ → List Share → Type 0
 Pays D who xs = (k : ℕ) → k < length xs → chosen who k ≡ true → D ≤ (slice_index_or xs k no_share).credit + (slice_index_or xs k no_share).step
 
+-- what a client does in a slot: served or not, and then with a block that waits or idle
+abbrev pub role : (waiting paying : Bool) → Role
+role waiting paying = cond paying Served (cond waiting Waiting Idle)
+
 -- a share's credit after a slot: served it pays, waiting it saves without a cap, idle it saves up to its cap
-abbrev pub next_credit : (denominator : ℕ) (waiting paying : Bool) → Share → ℕ
-next_credit D waiting paying x =
-    cond paying (x.credit + x.step - D) (cond waiting (x.credit + x.step) (min (x.credit + x.step) x.cap))
+abbrev pub next_credit : (denominator : ℕ) → Role → Share → ℕ
+next_credit D Served x = x.credit + x.step - D
+next_credit D Waiting x = x.credit + x.step
+next_credit D Idle x = min (x.credit + x.step) x.cap
 
 -- the share with that credit
-abbrev pub share_after : (denominator : ℕ) (waiting paying : Bool) → Share → Share
-share_after D waiting paying x = record { step = x.step; cap = x.cap; credit = next_credit D waiting paying x }
+abbrev pub share_after : (denominator : ℕ) → Role → Share → Share
+share_after D r x = record { step = x.step; cap = x.cap; credit = next_credit D r x }
 
 -- the share of client k after a slot that serves the client `who`
 abbrev pub earned : Meaning → (denominator : ℕ) → Option ℕ → ℕ → Share → Share
-earned m D who k x = share_after D (waits m k) (chosen who k) x
+earned m D who k x = share_after D (role (waits m k) (chosen who k)) x

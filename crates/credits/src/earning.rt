@@ -1,9 +1,10 @@
 ghost use Rattle.std.specs.Prelude.{◌≡◌};
 ghost use Rattle.clients.specs.Meant.{meaning};
-ghost use Rattle.credits.specs.Shares.{Pays, by_place, earned as earned_in};
+ghost use Rattle.clients.specs.Serving.{waits};
+ghost use Rattle.credits.specs.Shares.{Pays, by_place, chosen, earned as earned_in, role as role_of};
 
 use crate::credit_server::CreditServer;
-use crate::shares::Share;
+use crate::shares::{Role, Share};
 use arrayvec::ArrayVec;
 
 impl CreditServer {
@@ -16,10 +17,22 @@ impl CreditServer {
         let mut shares = ArrayVec::new();
         for (place, share) in self.shares.iter().enumerate() {
             // At most eight places, so each is a client's number.
-            let client = place as u8;
-            let waiting = self.clients.waits(client);
-            shares.push(share.after(self.denominator, waiting, who == Some(client)));
+            let role = self.role(place as u8, who);
+            shares.push(share.after(self.denominator, role));
         }
         shares
+    }
+
+    // What the client does in a slot that serves the client `who`.
+    fn role(&self, client: u8, who: Option<u8>) -> Role
+        ensures { result ≡ role_of (waits (meaning self.now.clients) client) (chosen who client) }
+    {
+        if who == Some(client) {
+            Role::Served
+        } else if self.clients.waits(client) {
+            Role::Waiting
+        } else {
+            Role::Idle
+        }
     }
 }

@@ -9,7 +9,7 @@ use crate::shares::Share;
 use arrayvec::ArrayVec;
 use clients::booking::BookingRefusal;
 use clients::table::Clients;
-use clients::ticks::{latency_of, rate_in_range};
+use clients::ticks::{rate_in_range, terms_of};
 use server::rate::{Rate, Terms};
 
 impl CreditBooking {
@@ -76,10 +76,7 @@ impl CreditBooking {
         if step > rest {
             return Err(BookingRefusal::Over);
         }
-        let theta = self.server.caps().div_ceil(rest);
-        // At most 4,194,304, so it fits; `try_from` would answer an error that cannot come.
-        let latency = latency_of(rate, theta) as u32;
-        Ok(Terms { rate, latency })
+        Ok(terms_of(rate, self.server.caps().div_ceil(rest)))
     }
 
     // Opens the booking for service, and uses it up.

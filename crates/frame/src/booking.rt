@@ -5,7 +5,7 @@ use crate::frame_server::FrameServer;
 use crate::owners::Frame;
 use clients::booking::BookingRefusal;
 use clients::table::Clients;
-use clients::ticks::{latency_of, rate_in_range};
+use clients::ticks::{rate_in_range, terms_of};
 use server::rate::{Rate, Terms};
 
 // A server that is not in service yet: a frame, and the clients reserved in it so far.
@@ -68,9 +68,8 @@ impl FrameBooking {
         if usize::from(rate.p) * slots > owned * usize::from(rate.q) {
             return Err(BookingRefusal::Share);
         }
-        // at most 256 slots, and a latency of at most 1,024 · 256 + 1,024 · 16: neither cast loses a bit
-        let latency = latency_of(rate, (slots - owned) as u32) as u32;
-        Ok(Terms { rate, latency })
+        // At most 256 slots: the cast loses no bit.
+        Ok(terms_of(rate, (slots - owned) as u32))
     }
 
     // Opens the booking for service, and uses it up.

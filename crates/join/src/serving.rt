@@ -54,12 +54,7 @@ impl<A: Server, B: Server> Server for Chain<A, B> {
     // A submission goes to the first; its due is by both latencies.
     fn submit(&mut self, client: u8, label: u32, length: u8) -> Result<u64, Refusal> {
         let view = self.view(client)?;
-        if !(1..=16).contains(&length) {
-            return Err(Refusal::BadLength);
-        }
-        if view.waiting >= 8 {
-            return Err(Refusal::Full);
-        }
+        view.accept(length)?;
         let _ = self.first.submit(client, label, length);
         let start = view.terms.rate.start_at(view.clock, self.now);
         Ok(view.terms.due(start))

@@ -1,5 +1,5 @@
 -- What is reserved keeps within the ring total and its ranges, and opens as a sound ring.
-use Rattle.std.proofs.Common.{◌≡◌, ℕ, ◌+◌, ◌-◌, ◌*◌, ◌/◌, ◌<◌, ◌≤◌, Bool, true, false, cond, ◌&&◌, eqb, ltb, leb, ◌≢◌, List, length, get_or, [], ◌∷◌, ◌++◌, Ok, Err, Result, OnOk, OnErr, sym, refl, ap, ◌∙◌, subst, ⊎_elim, mul-le-mul_right, mul-le-mul, mul-le-mul_left, arith, le-ltb, lt-ltb, eqb-true, leb-true}
+use Rattle.std.proofs.Common.{◌≡◌, ℕ, ◌+◌, ◌-◌, ◌*◌, ◌/◌, ◌<◌, ◌≤◌, min, Bool, true, false, cond, ◌&&◌, eqb, ltb, leb, ◌≢◌, List, length, get_or, [], ◌∷◌, ◌++◌, Ok, Err, Result, OnOk, OnErr, sym, refl, ap, ◌∙◌, subst, ⊎_elim, mul-le-mul_right, mul-le-mul, mul-le-mul_left, arith, le-ltb, lt-ltb, eqb-true, leb-true}
 use mathlib.Core.Path.{fun_ext}
 use native.Mathlib.Nat.{le_of_mul-le-mul_left}
 use borrow.Author.Tests.{eqb-false, clash}
@@ -17,7 +17,7 @@ use Rattle.clients.specs.declared.booking.NotAdmitted.{NotAdmitted}
 use Rattle.clients.specs.Held.{latency_for}
 use Rattle.clients.specs.View.{vacant, new_client}
 use Rattle.clients.specs.Serving.{no_clients, rate_ok, terms_ok, admits, admission, admitted}
-use Rattle.clients.proofs.Kept.{rate_ranged, ranged_terms}
+use Rattle.clients.proofs.Kept.{rate_ranged, ranged_terms, terms_whole}
 use Rattle.ring.specs.declared.shares.Share.{Share as Reserved}
 use Rattle.ring.specs.declared.shares.Shares.{Shares}
 use Rattle.ring.specs.declared.turns.Place.{Place}
@@ -183,19 +183,14 @@ module _ (s : Shares) (within : sum (count_in s) (quantum_in s) ≤ s.total) (ca
     pub next_ranged : (16 ≤ next.quantum) × (next.quantum ≤ s.total)
     next_ranged = let q = quantum_ranged n low in subst (λ (y : Reserved). (16 ≤ y.quantum) × (y.quantum ≤ s.total)) (sym next-is) (q.0, q.2)
 
-    -- with the latency that the code makes of it
-    module _ (θ latency : ℕ) (e : θ ≡ theta (count_in s) s.total next.quantum) (f : latency ≡ latency_for next.rate.p next.rate.q θ) where
-      abbrev terms : Terms
-      terms = record { rate = next.rate; latency = latency }
-
+    -- with the terms that the code makes of it
+    module _ (θ : ℕ) (e : θ ≡ theta (count_in s) s.total next.quantum) (terms : Terms) (f : terms ≡ record { rate = next.rate; latency = min (latency_for next.rate.p next.rate.q θ) 4294967295 }) where
       terms-are : terms ≡ terms_in s n
       terms-are =
-          let made : ℕ → Terms = λ late. record { rate = next.rate; latency = late } in
           let late : Reserved → Terms = λ y. record { rate = y.rate; latency = latency_for y.rate.p y.rate.q (theta (count_in s) s.total y.quantum) } in
-          ap made (f ∙ ap (latency_for next.rate.p next.rate.q) e) ∙ ap late next-is
-
-      pub next_late : latency ≤ 4194304
-      next_late = omega (arith, ap (λ (t : Terms). t.latency) terms-are, latency_most few n low)
+          let whole : late next ≡ terms_in s n = ap late next-is in
+          f ∙ ap (λ (k : ℕ). record { rate = next.rate; latency = min (latency_for next.rate.p next.rate.q k) 4294967295 }) e
+          ∙ terms_whole next.rate (latency_for next.rate.p next.rate.q (theta (count_in s) s.total next.quantum)) (omega (arith, ap (λ (t : Terms). t.latency) whole, latency_most few n low)) ∙ whole
 
       -- it is granted, and the table has it then
       pub next_in : (m : Meaning) → m ≡ first_clients s n → (admission m terms ≡ Ok tt) × (admitted m terms ≡ first_clients s (n + 1))

@@ -12,8 +12,8 @@ use crate::turns::{Place, Ring, Turn};
 use arrayvec::ArrayVec;
 use clients::booking::BookingRefusal;
 use clients::table::Clients;
-use clients::ticks::{latency_of, rate_in_range};
-use server::rate::{Rate, Terms};
+use clients::ticks::{rate_in_range, terms_of};
+use server::rate::Rate;
 
 // Whether a ring total is within its range.
 fn total_in_range(total: u32) -> bool
@@ -44,6 +44,7 @@ impl Shares {
     fn fresh_ring(&self) -> Ring
         ensures { result ≡ fresh_ring self.now }
     {
+        // A loop, since `collect` would answer that the places may not fit, which cannot be.
         let mut places = ArrayVec::new();
         for share in self.reserved.iter() {
             places.push(Place {
@@ -141,12 +142,7 @@ impl RingBooking {
     {
         let mut clients = Clients::new();
         for share in self.shares.reserved.iter() {
-            let theta = self.theta(share.quantum);
-            // a ring's latencies are far below 32 bits: the cast loses none
-            let terms = Terms {
-                rate: share.rate,
-                latency: latency_of(share.rate, theta) as u32,
-            };
+            let terms = terms_of(share.rate, self.theta(share.quantum));
             // what a booking keeps leaves no cause to turn a client away
             clients.admit(terms).unwrap();
         }

@@ -1,10 +1,10 @@
 ghost use Rattle.std.specs.Prelude.{◌≡◌, ◌+◌, ◌-◌, ◌^◌, ◌<◌, ◌≤◌, length, if◌then◌else◌};
 ghost use Rattle.clients.specs.Meant.{meaning};
 ghost use Rattle.clients.specs.Serving.{waits};
-ghost use Rattle.ring.specs.Turns.{quantum_of, deficit_of, stands_open, next_of, seek, length_of, next_rest, rest_read, turn_to};
+ghost use Rattle.ring.specs.Turns.{place_of, quantum_of, deficit_of, stands_open, next_of, seek, length_of, next_rest, rest_read, turn_to};
 
 use crate::ring_server::RingServer;
-use crate::turns::{Rest, Ring, Turn};
+use crate::turns::{Place, Rest, Ring, Turn};
 use server::block::{Block, Served};
 
 impl RingServer {
@@ -28,13 +28,22 @@ pub(crate) fn length_of(block: Option<Block>) -> u8
 }
 
 impl Ring {
+    // The client's place; one of no units where it has none.
+    fn place(&self, client: u8) -> Place
+        ensures { result ≡ place_of self.now client }
+    {
+        self.places
+            .get(usize::from(client))
+            .copied()
+            .unwrap_or_default()
+    }
+
     // The client's deficit once its front block, of this many units, has begun.
     pub(crate) fn begun_with(&self, client: u8, units: u8) -> u32
-        requires placed { client < length self.now.places.items }
-        requires fits { (deficit_of self.now client + quantum_of self.now client < 2 ^ 32) × (units ≤ deficit_of self.now client + quantum_of self.now client) }
+        requires { (deficit_of self.now client + quantum_of self.now client < 2 ^ 32) × (units ≤ deficit_of self.now client + quantum_of self.now client) }
         ensures { result ≡ (if stands_open self.now.turn then deficit_of self.now client else deficit_of self.now client + quantum_of self.now client - units) }
     {
-        let place = self.places[usize::from(client)];
+        let place = self.place(client);
         match self.turn {
             Turn::Open(_) => place.deficit,
             Turn::Closed(_) => place.deficit + place.quantum - u32::from(units),
@@ -43,10 +52,11 @@ impl Ring {
 
     // The turn is the client's, with this left of it.
     pub(crate) fn turn_to(&mut self, client: u8, rest: Rest)
-        requires { client < length self.old.places.items }
         ensures { self.new ≡ turn_to self.old client rest }
     {
-        self.places[usize::from(client)].deficit = rest.deficit;
+        if let Some(place) = self.places.get_mut(usize::from(client)) {
+            place.deficit = rest.deficit;
+        }
         self.turn = rest.turn;
     }
 }

@@ -52,6 +52,10 @@ entered t label len x = record {
 abbrev pub length_ok : ℕ → Bool
 length_ok len = nat_lt 0 len && nat_le len 16
 
+-- whether a block of this length may come in for a client of this view, or the first cause against it
+abbrev pub accepting : View → ℕ → Result (Unit {0}) Refusal
+accepting v len = cond (length_ok len) (cond (nat_lt v.waiting 8) (Ok tt) (Err Full)) (Err BadLength)
+
 -- what a submission answers: the due, or the first cause that holds
 abbrev pub granting : Meaning → ℕ → ℕ → DueAnswer
 granting m c len =

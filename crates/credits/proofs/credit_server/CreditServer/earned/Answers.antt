@@ -1,8 +1,8 @@
-use Rattle.std.proofs.Common.{◌<◌, Bool, length, get_or, ap, ◌∙◌, arith, lit<}
+use Rattle.std.proofs.Common.{◌<◌, length, get_or, ap, ◌∙◌, arith, lit<}
 use Rattle.clients.specs.Meant.{meaning}
-use Rattle.clients.specs.Serving.{waits}
+use Rattle.credits.specs.declared.shares.Role.{Role}
 use Rattle.credits.specs.Shares.{no_share, share_after}
-use Rattle.credits.proofs.Loops.{small_at, chosen_is, earned_long, earned_more}
+use Rattle.credits.proofs.Loops.{small_at, earned_long, earned_more}
 use Rattle.credits.proofs.credit_server.CreditServer.earned.Goals as goal
 
 pub after-requires-clause-small : goal.after-requires-clause-small
@@ -29,6 +29,4 @@ loop-place-preserved c =
     let share = get_or ys i no_share in
     earned_more i x.shares.items ys c.deref-share-items.ensures.0 c.loop-place-test.true m x.denominator c.args.who c.loop-place.shares.items c.loop-place.invariant
     c.push.new.self.items c.after.result c.push.ensures.items
-    (c.after.ensures
-    ∙ ap (λ (w : Bool). share_after x.denominator w c.eq.result share) c.waits-waiting.ensures
-    ∙ ap (λ (b : Bool). share_after x.denominator (waits m i) b share) (c.eq.ensures ∙ chosen_is c.args.who i))
+    (c.after.ensures ∙ ap (λ (r : Role). share_after x.denominator r share) c.role-role.ensures)

@@ -2,7 +2,7 @@ use Rattle.std.proofs.Common.{◌≡◌, Some, None, Ok, ap, ◌∙◌, rules}
 use Rattle.clients.specs.Meant.{meaning}
 use Rattle.clients.specs.Serving.{slot_says}
 use Rattle.ring.specs.Turns.{length_of}
-use Rattle.ring.proofs.Slots.{has_place, begun_fits, idle_ring, refused_ring, served_ring, slot_is, in_service}
+use Rattle.ring.proofs.Slots.{begun_fits, idle_ring, refused_ring, served_ring, slot_is, in_service}
 use Rattle.ring.proofs.serving.RingServerServer.slot.Goals as goal
 
 -- ## Nobody waits
@@ -26,7 +26,7 @@ begun_with-begun-requires c =
     let x = c.args.self.now in
     let client = c.in-Some.client in
     let turn = c.in-Some.ensures in
-    record { placed = has_place x client turn; fits = begun_fits x client turn c.length_of.result (c.length_of.ensures ∙ ap length_of c.front.ensures) }
+    begun_fits x client turn c.length_of.result (c.length_of.ensures ∙ ap length_of c.front.ensures)
 
 pub returns-in_err-served : goal.returns-in_err-served
 returns-in_err-served c =
@@ -36,9 +36,6 @@ returns-in_err-served c =
     let ring = refused_ring (meaning x.clients) x.ring who c.in_err-served.field-0.0 c.in_err-served.ensures.answers in
     let g = slot_is x who c.in-Some.ensures (meaning c.slot-2.new.self) x.ring c.in_err-served.ensures.leaves ring c.from_residual.result answer in
     record { serves = g.0; exactly = λ _. g.1 }
-
-pub turn_to-requires : goal.turn_to-requires
-turn_to-requires c = has_place c.args.self.now c.in-Some.client c.in-Some.ensures
 
 pub invariant_of-self-2 : goal.invariant_of-self-2
 invariant_of-self-2 c =
