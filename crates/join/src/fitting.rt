@@ -1,6 +1,6 @@
 ghost use Rattle.std.specs.Prelude.{◌≡◌, Bool};
 ghost use Rattle.server.specs.declared.view.View.{View as Seen};
-ghost use Rattle.join.specs.Fit.{have_same_rate, are_idle, is_in_reach, each as each_of, Tells, fitting};
+ghost use Rattle.join.specs.Fit.{have_same_rate, are_idle, is_in_reach, each as each_of, passes as passes_both, Tells, fitting};
 
 use crate::fit::Misfit;
 use server::server::Server;
@@ -24,22 +24,30 @@ fn in_reach(a: View, b: View) -> bool
     u64::from(a.terms.latency) + u64::from(b.terms.latency) <= 4194304
 }
 
+// Whether both servers have the client, and the test holds of it.
+fn passes<A: Server, B: Server, T: Fn(View, View) -> bool>(
+    first: &A,
+    second: &B,
+    test: &T,
+    client: u8,
+) -> bool
+    requires { T.IsAlwaysCallable test.now }
+    ensures { (told : Seen → Seen → Bool) → Tells (λ a b r. T.post test.now a b r) told → (A.Server.means (A.Server.state first.now)).count ≡ (B.Server.means (B.Server.state second.now)).count
+        → result ≡ passes_both told (A.Server.means (A.Server.state first.now)) (B.Server.means (B.Server.state second.now)) client }
+{
+    match (first.view(client), second.view(client)) {
+        (Ok(a), Ok(b)) => test(a, b),
+        _ => false,
+    }
+}
+
 // Whether the test holds of each client of two servers that have the same number of them.
 fn each<A: Server, B: Server, T: Fn(View, View) -> bool>(first: &A, second: &B, test: T) -> bool
     requires { T.IsAlwaysCallable test }
     ensures { (told : Seen → Seen → Bool) → Tells (λ a b r. T.post test a b r) told → (A.Server.means (A.Server.state first.now)).count ≡ (B.Server.means (B.Server.state second.now)).count
         → result ≡ each_of told (A.Server.means (A.Server.state first.now)) (B.Server.means (B.Server.state second.now)) }
 {
-    // A client is asked by its number.
-    for client in 0..first.clients() {
-        let (Ok(a), Ok(b)) = (first.view(client), second.view(client)) else {
-            return false;
-        };
-        if !test(a, b) {
-            return false;
-        }
-    }
-    true
+    (0..first.clients()).all(|client| passes(first, second, &test, client))
 }
 
 // Whether two servers fit, or why not; both are left as they were.
