@@ -12,7 +12,7 @@ abbrev pub starts_of : List (ArrayVec ℕ) → ℕ → List ℕ
 starts_of rows k = slice_index_or (map (λ r. r.items) rows) k []
 
 abbrev pub starts_in : Starts → ℕ → List ℕ
-starts_in s = starts_of s.rows.items
+starts_in s = starts_of s.rows
 
 -- the rows, with client c's changed
 abbrev pub at_row : ℕ → (List ℕ → List ℕ) → (ℕ → List ℕ) → ℕ → List ℕ

@@ -1,4 +1,4 @@
-ghost use Rattle.std.specs.Prelude.{◌≡◌, [], length, drop, slice_get};
+ghost use Rattle.std.specs.Prelude.{◌≡◌, [], drop, slice_get};
 
 use arrayvec::ArrayVec;
 use server::block::{Departure, Served};
@@ -7,8 +7,7 @@ use server::refusal::Refusal;
 // For each client the starts in the first server of its blocks that wait in the second, oldest first.
 #[derive(Drop)]
 pub(crate) struct Starts {
-    pub(crate) rows: ArrayVec<ArrayVec<u64, 8>, 8>,
-    ghost full: { length rows.items ≡ 8 },
+    pub(crate) rows: [ArrayVec<u64, 8>; 8],
 }
 
 impl Starts {
@@ -18,7 +17,7 @@ impl Starts {
         ensures { starts_in result ≡ (λ k. []) }
     {
         Starts {
-            rows: ArrayVec::from(<[ArrayVec<u64, 8>; 8]>::default()),
+            rows: Default::default(),
         }
     }
 
@@ -27,15 +26,18 @@ impl Starts {
         ensures answers { result ≡ slice_get (starts_in self.old client) 0 }
         ensures leaves { starts_in self.new ≡ at_row client (drop 1) (starts_in self.old) }
     {
-        self.rows.get_mut(client as usize)?.pop_at(0)
+        if client >= 8 {
+            return None;
+        }
+        self.rows[client as usize].pop_at(0)
     }
 
     // One more start of a client, where there is room.
     fn put(&mut self, client: u8, start: u64)
         ensures { starts_in self.new ≡ put_in client start (starts_in self.old) }
     {
-        if let Some(row) = self.rows.get_mut(client as usize) {
-            let _ = row.try_push(start);
+        if client < 8 {
+            let _ = self.rows[client as usize].try_push(start);
         }
     }
 
