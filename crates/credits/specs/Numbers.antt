@@ -2,9 +2,9 @@
 -- it has been served; R is what the higher clients' steps leave, H and C are their credits and caps.
 use Rattle.std.specs.Prelude.{◌≡◌, ℕ, ◌+◌, ◌-◌, ◌*◌, ◌<◌, ◌≤◌, min}
 use Rattle.std.proofs.Common.{sym, ap, ◌∙◌, ⊎_elim, arith, mul-le-mul, mul-le-mul_left, mul-le-mul_right, div-mul-le_self, mul-add, sub-add_cancel}
-use Rattle.std.proofs.Math.Nat.{div-eq_of_lt-le, le_of_mul-le-mul_left, lt-mul-div-succ, min-eq_left, min-eq_right}
+use Rattle.std.proofs.Math.Nat.{le_of_mul-le-mul_left, lt-mul-div-succ, min-eq_left, min-eq_right}
 use Rattle.std.proofs.lemmas.Bool.{cases_lt}
-use Rattle.std.proofs.lemmas.Grind.{div_ceil_times}
+use Rattle.server.proofs.Rounded.{rounded_up}
 use Rattle.std.specs.Int.{div_ceil}
 use Rattle.credits.specs.Shares.{theta}
 
@@ -50,9 +50,7 @@ ahead_early p t R H C f within early = omega (arith, mul-le-mul_left {m = p * t}
 
 -- a quotient rounded up is what the latency counts by
 pub theta_ceil : (R C : ℕ) → 1 ≤ R → theta R C ≡ div_ceil C R
-theta_ceil R C some =
-    let t = div_ceil_times C R some in
-    div-eq_of_lt-le {k = div_ceil C R} R {m = C + (R - 1)} (omega (arith, t.1)) (omega (arith, t.0))
+theta_ceil R C some = sym (rounded_up C R some)
 
 theta_covers : (R C : ℕ) → 1 ≤ R → C ≤ R * theta R C
 theta_covers R C some = omega (arith, lt-mul-div-succ (C + (R - 1)) {b = R} some)

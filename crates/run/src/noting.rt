@@ -42,7 +42,7 @@ fn slots_of(terms: Terms) -> u32
 {
     match terms.rate.p {
         0 => 0,
-        p => terms.latency.div_ceil(p as u32),
+        p => terms.latency.div_ceil(u32::from(p)),
     }
 }
 

@@ -4,3 +4,4 @@ pub mod Rows
 pub mod Turned
 pub mod Answers
 pub mod Grants
+pub mod Rounded
