@@ -1,7 +1,7 @@
 // The lines of a trace, each read from its own bytes.
 ghost use Rattle.lines.specs.Lines.{client_of, end_of, header_of, kind_in, request_of};
-ghost use Rattle.reader.specs.Fields.{after_field};
-ghost use Rattle.reader.specs.Parts.{field_number, fields_left, first_field, other_fields};
+ghost use Rattle.reader.specs.Fields.{Passed};
+ghost use Rattle.reader.specs.Parts.{field_number, fields_left, first_field};
 ghost use Rattle.std.specs.Prelude.{◌≡◌};
 
 use crate::records::{Client, Header, Request};
@@ -12,8 +12,7 @@ use reader::{Fields, open};
 /// The kind that the next field names by its letter.
 fn kind(fields: &mut Fields<'_>) -> Result<Kind, FieldFault>
     ensures value { result ≡ kind_in (field_number fields.old) (first_field (fields_left fields.old)) }
-    ensures left { fields_left fields.new ≡ other_fields (fields_left fields.old) }
-    ensures number { field_number fields.new ≡ after_field (field_number fields.old) }
+    ensures passed { Passed fields.old fields.new }
 {
     let fault = fields.fault(FieldCause::Form);
     let [letter] = fields.text() else {

@@ -1,6 +1,6 @@
 // The fields of a line, from the left: texts, numbers and labels.
-ghost use Rattle.reader.specs.Fields.{after_field, label_in, number_in};
-ghost use Rattle.reader.specs.Parts.{field_number, fields_left, first_field, other_fields};
+ghost use Rattle.reader.specs.Fields.{label_in, number_in, Passed};
+ghost use Rattle.reader.specs.Parts.{field_number, fields_left, first_field};
 ghost use Rattle.std.specs.Prelude.{◌≡◌, ◌≤◌, IfOk};
 
 use faults::{FieldCause, FieldFault};
@@ -38,8 +38,7 @@ impl<'a> Fields<'a> {
     /// The next field.
     pub fn text(&mut self) -> &'a [u8]
         ensures value { result.now ≡ first_field (fields_left self.old) }
-        ensures left { fields_left self.new ≡ other_fields (fields_left self.old) }
-        ensures number { field_number self.new ≡ after_field (field_number self.old) }
+        ensures passed { Passed self.old self.new }
     {
         let (text, rest) = marks::split_once(self.bytes, b',').unwrap_or((self.bytes, &[]));
         self.bytes = rest;
@@ -52,8 +51,7 @@ impl<'a> Fields<'a> {
     pub fn number(&mut self, most: u32) -> Result<u32, FieldFault>
         ensures value { result ≡ number_in (field_number self.old) most (first_field (fields_left self.old)) }
         ensures bound { IfOk result (λ number. number ≤ most) }
-        ensures left { fields_left self.new ≡ other_fields (fields_left self.old) }
-        ensures number { field_number self.new ≡ after_field (field_number self.old) }
+        ensures passed { Passed self.old self.new }
     {
         let fault = self.fault(FieldCause::Form);
         decimal::read(self.text(), most).ok_or(fault)
@@ -62,8 +60,7 @@ impl<'a> Fields<'a> {
     /// The next field as a number up to 255.
     pub fn small(&mut self) -> Result<u8, FieldFault>
         ensures value { result ≡ number_in (field_number self.old) 255 (first_field (fields_left self.old)) }
-        ensures left { fields_left self.new ≡ other_fields (fields_left self.old) }
-        ensures number { field_number self.new ≡ after_field (field_number self.old) }
+        ensures passed { Passed self.old self.new }
     {
         // At most 255, which `number` keeps to.
         Ok(self.number(255)? as u8)
@@ -72,8 +69,7 @@ impl<'a> Fields<'a> {
     /// The next field as a label of the kind `L`.
     pub fn label<L: LabelKind>(&mut self) -> Result<u32, FieldFault>
         ensures value { result ≡ label_in (field_number self.old) L.LabelKind.reads (first_field (fields_left self.old)) }
-        ensures left { fields_left self.new ≡ other_fields (fields_left self.old) }
-        ensures number { field_number self.new ≡ after_field (field_number self.old) }
+        ensures passed { Passed self.old self.new }
     {
         let fault = self.fault(FieldCause::Label);
         L::read(self.text()).ok_or(fault)
