@@ -80,14 +80,14 @@ module _ {S : Type 0} (desk : Desk S) where
   lines_cons reads o n line (p ∷ ps) h = refl
 
   first-cons : (s : S) (line : List ℕ) (ps : List (List ℕ)) → 0 < length ps
-      → lines_of desk s (line ∷ ps) ≡ and_then (at_line 1 (header_line desk s line)) (λ o. lines_from desk (reads_as o.seen.told.header.kind) o 2 ps)
+      → lines_of desk s (line ∷ ps) ≡ and_then (at_line 1 (header_line desk s line)) (λ o. lines_from desk (reads_as o.seen.header.kind) o 2 ps)
   first-cons s line [] h = absurd (omega arith)
   first-cons s line (p ∷ ps) h = refl
 
   -- the header's line, and then the lines behind it
   pub lines_first : (s : S) (bytes line rest : List ℕ) → Some line ≡ next_line bytes → rest ≡ after_line bytes
       → lines_of desk s (parts 10 bytes)
-      ≡ and_then (at_line 1 (header_line desk s line)) (λ o. lines_from desk (reads_as o.seen.told.header.kind) o 2 (parts 10 rest))
+      ≡ and_then (at_line 1 (header_line desk s line)) (λ o. lines_from desk (reads_as o.seen.header.kind) o 2 (parts 10 rest))
   lines_first s bytes line rest is-line is-rest =
       ap (lines_of desk s) (first_part bytes line rest is-line is-rest) ∙ first-cons s line (parts 10 rest) (parts_some rest)
 
@@ -134,12 +134,12 @@ module _ {S : Type 0} (desk : Desk S) where
     bad_header fault e =
         sym
         (short_trace s bytes short ∙ lines_first s bytes line rest is-line is-rest
-        ∙ stops 1 (header_line desk s line) (λ o. lines_from desk (reads_as o.seen.told.header.kind) o 2 (parts 10 rest)) fault e)
+        ∙ stops 1 (header_line desk s line) (λ o. lines_from desk (reads_as o.seen.header.kind) o 2 (parts 10 rest)) fault e)
 
     pub good_header : (o : Open S) → Ok o ≡ header_line desk s line → (r : Result (Read S) RunFault)
-        → r ≡ lines_from desk (reads_as o.seen.told.header.kind) o 2 (parts 10 rest) → r ≡ trace_of desk s bytes
+        → r ≡ lines_from desk (reads_as o.seen.header.kind) o 2 (parts 10 rest) → r ≡ trace_of desk s bytes
     good_header o e r is-r =
         is-r
         ∙ sym
         (short_trace s bytes short ∙ lines_first s bytes line rest is-line is-rest
-        ∙ goes_on 1 (header_line desk s line) (λ o. lines_from desk (reads_as o.seen.told.header.kind) o 2 (parts 10 rest)) o e)
+        ∙ goes_on 1 (header_line desk s line) (λ o. lines_from desk (reads_as o.seen.header.kind) o 2 (parts 10 rest)) o e)

@@ -28,7 +28,10 @@ pub record Told : Type 0 where
 
 -- a trace that is being read: what it told so far, which line may stand next, and the slot of the last R line
 pub record Seen : Type 0 where
-  pub told : Told
+  pub header : Header
+  pub owners : List Owner
+  pub clients : List Client
+  pub requests : List Request
   pub place : Place
   pub slot : ℕ
 
@@ -43,7 +46,7 @@ told_of t = record { header = t.header; owners = t.owners.items; clients = t.cli
 
 -- a trace that is being read, as far as it was read
 abbrev pub seen_of : Reading → Seen
-seen_of r = record { told = told_of r.trace; place = r.place; slot = r.slot }
+seen_of r = record { header = r.header; owners = r.owners.items; clients = r.clients.items; requests = r.requests.items; place = r.place; slot = r.slot }
 
 -- the same, with what is booked for it
 abbrev pub open_of : {S : Type 0} → Reading → S → Open S
@@ -61,7 +64,7 @@ leaving s (Err fault) = Err fault
 
 -- a trace behind its header
 abbrev pub started : Header → Seen
-started header = record { told = record { header = header; owners = []; clients = []; requests = []; end = 0 }; place = Frame; slot = 0 }
+started header = record { header = header; owners = []; clients = []; requests = []; place = Frame; slot = 0 }
 
 -- the first line is the header, and its two capacities are set
 abbrev pub header_line : {S : Type 0} → Desk S → S → List ℕ → Result (Open S) LineFault
@@ -72,45 +75,33 @@ module _ (seen : Seen) where
   -- the owners are kept, and a client's line must follow
   abbrev pub with_owners : List Owner → Seen
   with_owners owners =
-      record {
-        told = record { header = seen.told.header; owners = owners; clients = seen.told.clients; requests = seen.told.requests; end = seen.told.end };
-        place = First;
-        slot = seen.slot;
-      }
+      record { header = seen.header; owners = owners; clients = seen.clients; requests = seen.requests; place = First; slot = seen.slot }
 
   -- the first eight clients are kept
   abbrev pub with_client : Client → Seen
   with_client client =
-      record {
-        told = record { header = seen.told.header; owners = seen.told.owners; clients = pushed 8 seen.told.clients client; requests = seen.told.requests; end = seen.told.end };
-        place = Clients;
-        slot = seen.slot;
-      }
+      record { header = seen.header; owners = seen.owners; clients = pushed 8 seen.clients client; requests = seen.requests; place = Clients; slot = seen.slot }
 
   -- a request is kept with its slot
   abbrev pub with_request : Request → Seen
   with_request request =
-      record {
-        told = record { header = seen.told.header; owners = seen.told.owners; clients = seen.told.clients; requests = seen.told.requests ++ request ∷ []; end = seen.told.end };
-        place = Requests;
-        slot = request.slot;
-      }
+      record { header = seen.header; owners = seen.owners; clients = seen.clients; requests = seen.requests ++ request ∷ []; place = Requests; slot = request.slot }
 
   -- the slot of the end is kept, and no line may follow
   abbrev pub with_end : ℕ → Seen
   with_end slot =
-      record {
-        told = record { header = seen.told.header; owners = seen.told.owners; clients = seen.told.clients; requests = seen.told.requests; end = slot };
-        place = Done;
-        slot = seen.slot;
-      }
+      record { header = seen.header; owners = seen.owners; clients = seen.clients; requests = seen.requests; place = Done slot; slot = seen.slot }
+
+  -- what the trace tells, ended at this slot
+  abbrev pub ended : ℕ → Told
+  ended end = record { header = seen.header; owners = seen.owners; clients = seen.clients; requests = seen.requests; end = end }
 
   -- a request's slot is not before the last one's, and there are at most 600 requests
   abbrev pub request_line : (List ℕ → Option ℕ) → List ℕ → Result Seen LineFault
   request_line reads line =
       and_then (request_of reads line) (λ request.
       cond (nat_lt request.slot seen.slot) (Err Slot)
-      (cond (nat_lt (length seen.told.requests) 600) (Ok (with_request request)) (Err Crowd)))
+      (cond (nat_lt (length seen.requests) 600) (Ok (with_request request)) (Err Crowd)))
 
   -- the end's slot is not before the last request's
   abbrev pub end_line : List ℕ → Result Seen LineFault
@@ -139,4 +130,4 @@ module _ {S : Type 0} (desk : Desk S) (o : Open S) where
   line_at First reads line = client_line line
   line_at Clients reads line = cond (only 66 (field_at 0 line)) (client_line line) (leaving o.booked (later_line o.seen reads line))
   line_at Requests reads line = leaving o.booked (later_line o.seen reads line)
-  line_at Done reads line = Err Letter
+  line_at (Done end) reads line = Err Letter

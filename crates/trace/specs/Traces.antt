@@ -1,10 +1,10 @@
 -- What a whole trace tells, line by line, or the fault of its first wrong line.
-use Rattle.std.specs.Prelude.{ℕ, ◌+◌, Bool, true, false, cond, ◌&&◌, List, [], ◌∷◌, length, Ok, Err, Option, Result, ◌==◌, nat_le}
+use Rattle.std.specs.Prelude.{ℕ, ◌+◌, cond, List, [], ◌∷◌, length, Ok, Err, Option, Result, ◌==◌, nat_le}
 use Rattle.labels.specs.Kinds.{reads_as}
 use Rattle.marks.specs.Marks.{parts}
 use Rattle.trace.specs.Bookings.{Desk}
 use Rattle.lines.specs.Lines.{and_then}
-use Rattle.trace.specs.Readings.{Told, Seen, Open, told_of, started, header_line, line_at}
+use Rattle.trace.specs.Readings.{Told, Seen, Open, told_of, started, ended, header_line, line_at}
 use Rattle.faults.specs.declared.LineFault.TheVariants.{End}
 use Rattle.faults.specs.declared.LineFault.{LineFault}
 use Rattle.faults.specs.declared.RunFault.TheVariants.{Size, At}
@@ -43,17 +43,16 @@ abbrev pub at_line : {A : Type 0} → ℕ → Result A LineFault → Result A Ru
 at_line n (Ok x) = Ok x
 at_line n (Err fault) = Err (At n fault)
 
--- whether the line of the end was read
-abbrev pub is_done : Place → Bool
-is_done Frame = false
-is_done First = false
-is_done Clients = false
-is_done Requests = false
-is_done Done = true
+-- behind the line of its end, with no byte left, a trace is whole; line n is missing else
+abbrev pub finished_at : Place → Seen → ℕ → List ℕ → Result Told RunFault
+finished_at Frame seen n rest = Err (At n End)
+finished_at First seen n rest = Err (At n End)
+finished_at Clients seen n rest = Err (At n End)
+finished_at Requests seen n rest = Err (At n End)
+finished_at (Done end) seen n rest = cond (length rest == 0) (Ok (ended seen end)) (Err (At n End))
 
--- a trace ends well behind the line of its end, with no byte left; line n is missing else
 abbrev pub finished : Seen → ℕ → List ℕ → Result Told RunFault
-finished seen n rest = cond (is_done seen.place && length rest == 0) (Ok seen.told) (Err (At n End))
+finished seen = finished_at seen.place seen
 
 -- the lines from line n on: each part but the last is a line, and the last is what no byte 10 ends
 abbrev pub lines_from : {S : Type 0} → Desk S → (List ℕ → Option ℕ) → Open S → ℕ → List (List ℕ) → Result (Read S) RunFault
@@ -67,7 +66,7 @@ abbrev pub lines_of : {S : Type 0} → Desk S → S → List (List ℕ) → Resu
 lines_of desk s [] = Err (At 1 End)
 lines_of desk s (rest ∷ []) = Err (At 1 End)
 lines_of desk s (line ∷ next ∷ more) =
-    and_then (at_line 1 (header_line desk s line)) (λ o. lines_from desk (reads_as o.seen.told.header.kind) o 2 (next ∷ more))
+    and_then (at_line 1 (header_line desk s line)) (λ o. lines_from desk (reads_as o.seen.header.kind) o 2 (next ∷ more))
 
 -- a trace has at most 65,536 bytes and is read line by line
 abbrev pub trace_of : {S : Type 0} → Desk S → S → List ℕ → Result (Read S) RunFault

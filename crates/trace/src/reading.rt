@@ -23,14 +23,18 @@ pub enum Place {
     Clients,
     /// A request's line or the end.
     Requests,
-    /// None.
-    Done,
+    /// None: the trace has ended at this slot.
+    Done(u32),
 }
 
-/// A trace that is being read: what it told so far, which line may stand next, and the slot of the last R line.
+/// A trace that is being read: what it told so far, which line may stand next, and the slot that none may be
+/// before, which is that of the last R line.
 #[derive(Drop)]
 pub struct Reading {
-    pub(crate) trace: Trace,
+    pub(crate) header: Header,
+    pub(crate) owners: ArrayVec<Owner, 256>,
+    pub(crate) clients: ArrayVec<Client, 8>,
+    pub(crate) requests: ArrayVec<Request, 600>,
     pub(crate) place: Place,
     pub(crate) slot: u32,
 }

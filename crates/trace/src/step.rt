@@ -4,7 +4,7 @@ ghost use Rattle.trace.specs.Readings.{client_line, end_line, frame_line, later_
 ghost use Rattle.std.specs.Prelude.{◌≡◌};
 
 use crate::bookings::Bookings;
-use crate::reading::{Place, Reading, Trace};
+use crate::reading::{Place, Reading};
 use arrayvec::ArrayVec;
 use faults::LineFault;
 use labels::LabelKind;
@@ -17,13 +17,10 @@ impl Reading {
         ensures { seen_of result ≡ started header }
     {
         Reading {
-            trace: Trace {
-                header,
-                owners: ArrayVec::new(),
-                clients: ArrayVec::new(),
-                requests: ArrayVec::new(),
-                end: 0,
-            },
+            header,
+            owners: ArrayVec::new(),
+            clients: ArrayVec::new(),
+            requests: ArrayVec::new(),
             place: Place::Frame,
             slot: 0,
         }
@@ -39,7 +36,7 @@ impl Reading {
     {
         let owners = frame(line)?;
         bookings.frame(owners.as_slice())?;
-        self.trace.owners = owners;
+        self.owners = owners;
         self.place = Place::First;
         Ok(())
     }
@@ -55,7 +52,7 @@ impl Reading {
         let client = client(line)?;
         bookings.reserve(&client)?;
         // The first eight are kept; whether there may be more is the bookings' to say.
-        let _ = self.trace.clients.try_push(client);
+        let _ = self.clients.try_push(client);
         self.place = Place::Clients;
         Ok(())
     }
@@ -68,8 +65,7 @@ impl Reading {
         if request.slot < self.slot {
             return Err(LineFault::Slot);
         }
-        self.trace
-            .requests
+        self.requests
             .try_push(request)
             .map_err(|_| LineFault::Crowd)?;
         self.place = Place::Requests;
@@ -85,8 +81,7 @@ impl Reading {
         if slot < self.slot {
             return Err(LineFault::Slot);
         }
-        self.trace.end = slot;
-        self.place = Place::Done;
+        self.place = Place::Done(slot);
         Ok(())
     }
 
@@ -120,7 +115,7 @@ impl Reading {
                 }
             }
             Place::Requests => self.later::<L>(line),
-            Place::Done => Err(LineFault::Letter),
+            Place::Done(_) => Err(LineFault::Letter),
         }
     }
 }

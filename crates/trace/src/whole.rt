@@ -35,12 +35,21 @@ fn finish(reading: Reading, number: u32, rest: &[u8]) -> Result<Trace, RunFault>
     ensures { told_by result ≡ finished (seen_of reading) number rest.now }
 {
     let Reading {
-        trace,
+        header,
+        owners,
+        clients,
+        requests,
         place,
         slot: _,
     } = reading;
     match place {
-        Place::Done if rest.is_empty() => Ok(trace),
+        Place::Done(end) if rest.is_empty() => Ok(Trace {
+            header,
+            owners,
+            clients,
+            requests,
+            end,
+        }),
         _ => Err(RunFault::At(number, LineFault::End)),
     }
 }
