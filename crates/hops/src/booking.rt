@@ -2,7 +2,7 @@ ghost use Rattle.std.specs.Prelude.{◌≡◌, min};
 ghost use Rattle.trace.specs.Bookings.{led};
 ghost use Rattle.hops.specs.Hops.{State as Booked, booked_in, at_hop, line_rate, reserved_frame, reserved_credits, reserved_ring, desk as hops_desk};
 
-use crate::hops::Hops;
+use crate::hops::{Hop, Hops};
 use clients::booking::BookingRefusal;
 use faults::BookingFault;
 use lines::{Client, Header, Owner};
@@ -10,10 +10,13 @@ use server::rate::Rate;
 use trace::Bookings;
 
 // A booking's answer at a hop: its refusal is told with the hop.
-fn at(hop: u8, answer: Result<(), BookingRefusal>) -> Result<(), BookingFault>
+fn at(hop: Hop, answer: Result<(), BookingRefusal>) -> Result<(), BookingFault>
     ensures { (s : Booked) → led result s ≡ at_hop hop answer s }
 {
-    answer.map_err(|refusal| BookingFault { hop, refusal })
+    answer.map_err(|refusal| BookingFault {
+        hop: hop as u8,
+        refusal,
+    })
 }
 
 // The rate of a client's line. Both types are other crates', so that no `From` may stand here.
@@ -34,12 +37,15 @@ impl Bookings for Hops {
     ghost desk = { hops_desk };
 
     fn set(&mut self, header: &Header) -> Result<(), BookingFault> {
-        at(2, self.credits.set_denominator(header.denominator))?;
-        at(3, self.ring.set_total(header.total))
+        at(
+            Hop::Credits,
+            self.credits.set_denominator(header.denominator),
+        )?;
+        at(Hop::Ring, self.ring.set_total(header.total))
     }
 
     fn frame(&mut self, owners: &[Owner]) -> Result<(), BookingFault> {
-        at(1, self.frame.set_frame(owners))
+        at(Hop::Frame, self.frame.set_frame(owners))
     }
 
     fn reserve(&mut self, client: &Client) -> Result<(), BookingFault> {
@@ -53,14 +59,14 @@ impl Hops {
     fn reserve_frame(&mut self, client: &Client) -> Result<(), BookingFault>
         ensures { led result (booked_in self.new) ≡ reserved_frame (booked_in self.old) client.now }
     {
-        at(1, self.frame.reserve(rate_of(client)))
+        at(Hop::Frame, self.frame.reserve(rate_of(client)))
     }
 
     fn reserve_credits(&mut self, client: &Client) -> Result<(), BookingFault>
         ensures { led result (booked_in self.new) ≡ reserved_credits (booked_in self.old) client.now }
     {
         at(
-            2,
+            Hop::Credits,
             self.credits
                 .reserve(rate_of(client), client.step, client.cap),
         )
@@ -69,6 +75,9 @@ impl Hops {
     fn reserve_ring(&mut self, client: &Client) -> Result<(), BookingFault>
         ensures { led result (booked_in self.new) ≡ reserved_ring (booked_in self.old) client.now }
     {
-        at(3, self.ring.reserve(rate_of(client), client.quantum))
+        at(
+            Hop::Ring,
+            self.ring.reserve(rate_of(client), client.quantum),
+        )
     }
 }

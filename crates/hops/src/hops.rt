@@ -6,6 +6,14 @@ use join::chain::Chain;
 use ring::booking::RingBooking;
 use ring::ring_server::RingServer;
 
+/// The station's hops in their order, each with the number by which a booking's fault tells it.
+#[derive(Clone, Copy, PartialEq, Eq, Debug)]
+pub(crate) enum Hop {
+    Frame = 1,
+    Credits = 2,
+    Ring = 3,
+}
+
 /// What is booked at each hop.
 #[derive(Drop)]
 pub struct Hops {
