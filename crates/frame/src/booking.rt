@@ -8,7 +8,8 @@ use clients::table::Clients;
 use clients::ticks::{rate_in_range, terms_of};
 use server::rate::{Rate, Terms};
 
-// A server that is not in service yet: a frame, and the clients reserved in it so far.
+// A server that is not in service yet: a frame, and the clients reserved in it so far. The three schedulers'
+// bookings share no trait: each takes a share of its own kind, so that nothing could be written for all three.
 #[derive(Drop)]
 pub struct FrameBooking {
     server: FrameServer,

@@ -4,7 +4,8 @@ ghost use Rattle.ring.specs.Shares.{count_in, quantum_in, Carried};
 
 use crate::shares::Shares;
 
-// A ring total and the clients reserved in it so far.
+// A ring total and the clients reserved in it so far. The three schedulers' bookings share no trait: each takes
+// a share of its own kind, so that nothing could be written for all three.
 #[derive(Drop)]
 pub struct RingBooking {
     pub(crate) shares: Shares,

@@ -28,7 +28,7 @@ pub enum Place {
 }
 
 /// A trace that is being read: what it told so far, which line may stand next, and the slot that none may be
-/// before, which is that of the last R line.
+/// before. That is the last R line's, and slot 0 before the first, since no slot is before it.
 #[derive(Drop)]
 pub struct Reading {
     pub(crate) header: Header,
