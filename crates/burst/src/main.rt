@@ -11,7 +11,7 @@ mod sources;
 mod traffic;
 
 use bookings::{credit_hop, frame_hop, ring_hop};
-use serving::serve;
+use serving::Hop;
 use std::io;
 
 fn main(rt: HostRuntime) -> io::Result<()> {
@@ -21,7 +21,7 @@ fn main(rt: HostRuntime) -> io::Result<()> {
     rt.println(
         "granted, due, departed and spare in slots. A block is due at (start + latency) / p.",
     )?;
-    serve(&rt, rt.alloc(), frame_hop(&rt)?)?;
-    serve(&rt, rt.alloc(), credit_hop(&rt)?)?;
-    serve(&rt, rt.alloc(), ring_hop(&rt)?)
+    Hop::new(&rt, rt.alloc(), frame_hop(&rt)?).serve()?;
+    Hop::new(&rt, rt.alloc(), credit_hop(&rt)?).serve()?;
+    Hop::new(&rt, rt.alloc(), ring_hop(&rt)?).serve()
 }

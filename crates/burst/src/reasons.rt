@@ -2,7 +2,8 @@ use clients::booking::BookingRefusal;
 use server::refusal::Refusal;
 use std::fmt;
 
-// A refusal, printed as the reason for it.
+// A refusal, printed as the reason for it. The words are this program's own, of its sources and their bookings,
+// so no one `Display` beside the library's enums could print them for every program.
 #[derive(Clone, Copy)]
 pub struct Reason<R>(pub R);
 

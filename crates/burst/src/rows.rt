@@ -1,6 +1,6 @@
 use crate::reasons::Reason;
 use crate::sources::Source;
-use crate::traffic::Arrival;
+use crate::traffic::{Arrival, Grant};
 use server::block::Departure;
 use server::refusal::Refusal;
 use std::fmt;
@@ -12,13 +12,11 @@ pub struct RefusedRow {
     pub refusal: Refusal,
 }
 
-// The row of a block that has left: the slot of its grant, the slot by which it must have left, and the
-// slots counted when it left.
+// The row of a block that has left: its grant, and the slots counted when it left.
 #[derive(Clone, Copy)]
 pub struct DepartedRow {
     pub departure: Departure,
-    pub granted: u32,
-    pub due: u64,
+    pub grant: Grant,
     pub now: u32,
 }
 
@@ -48,17 +46,13 @@ impl fmt::Display for DepartedRow {
             start,
         } = self.departure;
         let source = Source::from(client);
-        let DepartedRow {
-            granted,
-            due,
-            now,
-            ..
-        } = *self;
+        let Grant { slot, due } = self.grant;
         write!(
             f,
-            "  {source:<13} {label:>6} {length:>6} {granted:>8} {start:>7} {due:>6} {now:>9}"
+            "  {source:<13} {label:>6} {length:>6} {slot:>8} {start:>7} {due:>6} {:>9}",
+            self.now
         )?;
-        match due.checked_sub(u64::from(now)) {
+        match due.checked_sub(u64::from(self.now)) {
             Some(spare) => write!(f, " {spare:>6}"),
             None => f.write_str("   LATE"),
         }

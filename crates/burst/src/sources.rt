@@ -11,17 +11,19 @@ pub enum Source {
 }
 
 impl Source {
+    // The sources that are booked.
+    pub const BOOKED: [Source; 3] = [Source::Housekeeping, Source::Ranging, Source::Payload];
+}
+
+// The source's client number.
+impl From<Source> for u8 {
     ghost use Rattle.std.specs.Prelude.{◌≡◌};
     ghost use Rattle.burst.specs.Sources.{source_of};
 
-    // The sources that are booked.
-    pub const BOOKED: [Source; 3] = [Source::Housekeeping, Source::Ranging, Source::Payload];
+    ghost from_gives = { λ source client. source_of client ≡ source };
 
-    // The source's client number.
-    pub fn client(self) -> u8
-        ensures { source_of result ≡ self }
-    {
-        self as u8
+    fn from(source: Source) -> u8 {
+        source as u8
     }
 }
 

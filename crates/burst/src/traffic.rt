@@ -9,6 +9,14 @@ pub struct Arrival {
     pub length: u8,
 }
 
+// The answer to an arrival that a hop takes: the slot of the grant, and the slot by which the block must
+// have left.
+#[derive(Clone, Copy)]
+pub struct Grant {
+    pub slot: u32,
+    pub due: u64,
+}
+
 // A table of arrivals, a row for each: slot, source, label and length.
 macro_rules! arrivals {
     ($($slot:literal $source:ident $label:literal $length:literal,)*) => {
@@ -17,7 +25,7 @@ macro_rules! arrivals {
 }
 
 // The burst in slot 0, with what must be refused in it, and a few late blocks, by their slots.
-pub const TRAFFIC: [Arrival; 19] = arrivals![
+pub const TRAFFIC: &[Arrival] = &arrivals![
     0 Housekeeping 101 3,
     0 Housekeeping 102 5,
     0 Ranging 201 6,
