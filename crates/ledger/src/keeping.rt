@@ -1,7 +1,8 @@
+ghost use Rattle.std.specs.Prelude.{◌<◌};
+
 use book::calls::{Event, Order};
 use server::block::Served;
 use server::rate::Terms;
-use server::refusal::Refusal;
 use server::server::Server;
 use std::alloc::{AllocError, Global};
 
@@ -13,12 +14,14 @@ struct Account {
 }
 
 impl Account {
-    // The account of a client that has sent nothing yet.
-    fn open<S: Server>(server: &S, client: u8) -> Result<Account, Refusal> {
-        Ok(Account {
-            terms: server.view(client)?.terms,
+    // The account of one of the server's clients, which has sent nothing yet.
+    fn open<S: Server>(server: &S, client: u8) -> Account
+        requires { client < (S.Server.means (S.Server.state server.now)).count }
+    {
+        Account {
+            terms: server.view(client).unwrap().terms,
             clock: 0,
-        })
+        }
     }
 }
 
@@ -44,7 +47,7 @@ impl Ledger {
     // A book with no blocks, and an account for each client of the server.
     pub fn open<S: Server>(heap: Global, server: &S) -> Result<Ledger, AllocError> {
         let accounts = (0..server.clients())
-            .filter_map(|client| Account::open(server, client).ok())
+            .map(|client| Account::open(server, client))
             .collect(heap)?;
         Ok(Ledger {
             slots: 0,
@@ -100,11 +103,10 @@ impl Ledger {
 
     // The oldest waiting block of the client has left.
     fn depart(&mut self, client: u8) {
-        let now = self.slots;
         let oldest = self.entries.iter_mut().find(|entry| entry.order.client == client
             && entry.departure.is_none());
         if let Some(entry) = oldest {
-            entry.departure = Some(now);
+            entry.departure = Some(self.slots);
         }
     }
 }

@@ -1,14 +1,7 @@
-use crate::sources::Source;
+use crate::sources::{SCIENCE, STRANGER, Source, TELEMETRY};
 use book::calls::{Call, Order, Question};
 use std::alloc::{AllocError, Global};
 use std::iter::repeat_n;
-
-// The sources as clients that a question is about.
-const TELEMETRY: u8 = Source::Telemetry as u8;
-
-const SCIENCE: u8 = Source::Science as u8;
-
-const STRANGER: u8 = Source::Stranger as u8;
 
 // A line of the script: so many slots, or a block of a source by its label and length, or a question. Fields
 // go by position, so that each call of the script is one line of the table.
@@ -19,7 +12,7 @@ enum Line {
     Ask(Question),
 }
 
-const SCRIPT: [Line; 27] = [
+const SCRIPT: &[Line] = &[
     Line::Ask(Question::Clients),
     Line::Submit(Source::Telemetry, 11, 2),
     Line::Submit(Source::Science, 21, 4),
@@ -53,10 +46,10 @@ const SCRIPT: [Line; 27] = [
 pub fn calls(heap: Global) -> Result<Vec<Call>, AllocError> {
     let mut calls = Vec::new(heap);
     for line in SCRIPT {
-        match line {
+        match *line {
             Line::Slots(count) => calls.extend(repeat_n(Call::Slot, usize::from(count)))?,
             Line::Submit(source, label, length) => calls.push(Call::Submit(Order {
-                client: source.client(),
+                client: source.into(),
                 label,
                 length,
             }))?,

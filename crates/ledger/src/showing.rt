@@ -1,16 +1,23 @@
 use crate::keeping::{Entry, Ledger};
 use crate::sources::Source;
 use crate::words::Words;
+use anyhow::{Result, anyhow};
 use join::fitting::fit;
 use server::server::Server;
 use std::{fmt, io};
 
-// The latencies of a server's two sources.
-pub fn tell_hop<S: Server>(rt: &impl Print, hop: &str, server: &S) -> io::Result<()> {
-    let latency_of = |source: Source| server.latency(source.client()).unwrap_or(0);
-    let telemetry = latency_of(Source::Telemetry);
-    let science = latency_of(Source::Science);
-    println!(rt; "  {hop:<10} telemetry {telemetry:>4}   science {science:>4}")
+// The latencies of a server's two sources; a server that lacks one of them is an error.
+pub fn tell_hop<S: Server>(rt: &impl Print, hop: &str, server: &S) -> Result<()> {
+    let latency_of = |source: Source| {
+        server.latency(source.into()).map_err(|refusal| anyhow!(
+            "{hop} has no latency of {source}: {}",
+            Words(refusal)
+        ))
+    };
+    let telemetry = latency_of(Source::Telemetry)?;
+    let science = latency_of(Source::Science)?;
+    println!(rt; "  {hop:<10} telemetry {telemetry:>4}   science {science:>4}")?;
+    Ok(())
 }
 
 pub fn tell_fit<A: Server, B: Server>(
@@ -31,10 +38,10 @@ pub fn show(rt: &impl Print, ledger: &Ledger) -> io::Result<()> {
     println!(rt;
         "\nThe book after {now} slots: start, distance and bound in ticks, due and departed in slots"
     )?;
-    println!(rt;
-        "  distance is p x departed - start, and p x (now + 1) - start for a block that waits"
+    rt.println(
+        "  distance is p x departed - start, and p x (now + 1) - start for a block that waits",
     )?;
-    println!(rt; "  source     label  units  start   due  departed  distance  bound")?;
+    rt.println("  source     label  units  start   due  departed  distance  bound")?;
     for entry in ledger.entries() {
         rt.println(Row { entry: *entry, now })?;
     }

@@ -8,15 +8,22 @@ pub enum Source {
     Stranger,
 }
 
-impl Source {
+// The client numbers of the sources, for constants, whose values cannot come from a call of `from`.
+pub const TELEMETRY: u8 = Source::Telemetry as u8;
+
+pub const SCIENCE: u8 = Source::Science as u8;
+
+pub const STRANGER: u8 = Source::Stranger as u8;
+
+// The source's client number.
+impl From<Source> for u8 {
     ghost use Rattle.std.specs.Prelude.{◌≡◌};
     ghost use Rattle.ledger.specs.Sources.{source_of};
 
-    // The source's client number.
-    pub fn client(self) -> u8
-        ensures { source_of result ≡ self }
-    {
-        self as u8
+    ghost from_gives = { λ source client. source_of client ≡ source };
+
+    fn from(source: Source) -> u8 {
+        source as u8
     }
 }
 

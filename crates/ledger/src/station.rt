@@ -1,4 +1,4 @@
-use crate::sources::Source;
+use crate::sources::{SCIENCE, TELEMETRY};
 use clients::booking::BookingRefusal;
 use credits::booking::CreditBooking;
 use credits::credit_server::CreditServer;
@@ -19,13 +19,8 @@ const TELEMETRY_RATE: Rate = Rate { p: 1, q: 4 };
 
 const SCIENCE_RATE: Rate = Rate { p: 2, q: 5 };
 
-// The owners of a frame's slots.
-const TELEMETRY: Option<u8> = Some(Source::Telemetry as u8);
-
-const SCIENCE: Option<u8> = Some(Source::Science as u8);
-
-// Four slots: two of science, one of telemetry, one of nobody.
-const OWNERS: [Option<u8>; 4] = [SCIENCE, TELEMETRY, SCIENCE, None];
+// The owners of a frame's four slots: two of science, one of telemetry, one of nobody.
+const OWNERS: [Option<u8>; 4] = [Some(SCIENCE), Some(TELEMETRY), Some(SCIENCE), None];
 
 // The three bookings are types of their own, and each carries a rate by a share of its own kind, so each is
 // booked by a function of its own.

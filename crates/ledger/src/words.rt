@@ -4,7 +4,8 @@ use join::fit::Misfit;
 use server::refusal::Refusal;
 use std::fmt;
 
-// What a server was told, asked or answers, printed in words.
+// What a server was told, asked or answers, printed in words. They are this program's own, of its sources, so
+// no one `Display` beside the library's types could print them for every program.
 #[derive(Clone, Copy)]
 pub struct Words<T>(pub T);
 
