@@ -7,7 +7,7 @@ use std::iter::repeat_n;
 // go by position, so that each call of the script is one line of the table.
 #[derive(Clone, Copy)]
 enum Line {
-    Slots(u8),
+    Slots(usize),
     Submit(Source, u32, u8),
     Ask(Question),
 }
@@ -47,7 +47,7 @@ pub fn calls(heap: Global) -> Result<Vec<Call>, AllocError> {
     let mut calls = Vec::new(heap);
     for line in SCRIPT {
         match *line {
-            Line::Slots(count) => calls.extend(repeat_n(Call::Slot, usize::from(count)))?,
+            Line::Slots(count) => calls.extend(repeat_n(Call::Slot, count))?,
             Line::Submit(source, label, length) => calls.push(Call::Submit(Order {
                 client: source.into(),
                 label,
