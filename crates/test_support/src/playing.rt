@@ -31,17 +31,14 @@ fn numbered(answer: Result<u64, Refusal>) -> Result<u64, u8>
     answer.map_err(Refusal::number)
 }
 
-// Hands a server the block of a row that comes in this slot, labelled by the slot.
-fn submit<S: Server>(server: &mut S, slot: u32, row: &Submission) -> Result<(), Mismatch>
-    ensures { OnOk result (S.Server.named → Submits S.Server.means S.Server.machine slot (S.Server.state server.old) row.now (S.Server.state server.new)) }
+// Hands a server the block of a row, labelled by the row's slot.
+fn submit<S: Server>(server: &mut S, row: &Submission) -> Result<(), Mismatch>
+    ensures { OnOk result (S.Server.named → Submits S.Server.means S.Server.machine row.now.slot (S.Server.state server.old) row.now (S.Server.state server.new)) }
 {
-    if row.slot != slot {
-        return Ok(());
-    }
-    let told = numbered(server.submit(row.client, slot, row.length));
+    let told = numbered(server.submit(row.client, row.slot, row.length));
     if told != row.answer {
         return Err(Mismatch::Answer {
-            slot,
+            slot: row.slot,
             told,
             expected: row.answer,
         });
@@ -54,8 +51,11 @@ fn submit_all<S: Server>(server: &mut S, submissions: &[Submission]) -> Result<(
     ensures { OnOk result (S.Server.named → SubmitsAll S.Server.means S.Server.machine submissions.now (S.Server.state server.old) (S.Server.state server.new)) }
 {
     let slot = server.now();
+    // No `filter`: a loop over a chain with a closure gets no invariant in a function with a type parameter.
     for row in submissions {
-        submit(server, slot, row)?;
+        if row.slot == slot {
+            submit(server, row)?;
+        }
     }
     Ok(())
 }
