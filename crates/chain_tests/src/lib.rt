@@ -22,7 +22,9 @@ mod tests {
     use server::server::Server;
     use std::alloc::{AllocError, Global};
     use std::test::Fail;
+    use test_support::playing::submit_all;
     use test_support::rates::rate;
+    use test_support::refusals;
 
     const QUARTER: Rate = Rate { p: 1, q: 4 };
 
@@ -100,16 +102,13 @@ mod tests {
         Ok(())
     }
 
+    // At the rate 1/4 each unit is due 4 slots after the one before. The other client is granted a block still.
     #[test]
     fn submissions_refused(rt: HostRuntime) -> Result<(), Fail> {
         let mut server = framed()?;
-        assert_eq!(rt; server.submit(2, 7, 1).map_err(Refusal::number), Err(1));
-        assert_eq!(rt; server.submit(1, 7, 0).map_err(Refusal::number), Err(2));
-        for _ in 0..8 {
-            server.submit(1, 7, 1)?;
-        }
+        let refusals = refusals![absent 2, client 1, length 1, dues 67 71 75 79 83 87 91 95];
+        submit_all(&mut server, &refusals)?;
         assert_eq!(rt; server.waiting(1)?, 8);
-        assert_eq!(rt; server.submit(1, 7, 1).map_err(Refusal::number), Err(3));
         server.submit(0, 7, 1)?;
         Ok(())
     }

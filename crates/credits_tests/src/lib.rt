@@ -8,13 +8,12 @@ mod tests {
     use clients::booking::BookingRefusal;
     use credits::booking::CreditBooking;
     use credits::credit_server::CreditServer;
-    use server::refusal::Refusal;
     use server::server::Server;
     use std::test::Fail;
-    use test_support::playing::{play, serve};
+    use test_support::playing::{play, serve, submit_all};
     use test_support::rates::rate;
     use test_support::submission::Submission;
-    use test_support::submissions;
+    use test_support::{refusals, submissions};
 
     // A server of one client, rate 1/4, step 1 and cap 4, with the denominator 4.
     fn single() -> Result<CreditServer, BookingRefusal> {
@@ -110,18 +109,14 @@ mod tests {
         Ok(())
     }
 
+    // At the rate 1/4 each block of 16 is due 64 slots after the one before.
     #[test]
     fn submissions_refused(rt: HostRuntime) -> Result<(), Fail> {
-        let number = Refusal::number;
         let mut server = single()?;
-        assert_eq!(rt; server.submit(1, 7, 1).map_err(number), Err(1));
-        assert_eq!(rt; server.submit(0, 7, 0).map_err(number), Err(2));
-        assert_eq!(rt; server.submit(0, 7, 17).map_err(number), Err(2));
-        for _ in 0..8 {
-            server.submit(0, 7, 16)?;
-        }
+        let refusals =
+            refusals![absent 1, client 0, length 16, dues 64 128 192 256 320 384 448 512];
+        submit_all(&mut server, &refusals)?;
         assert_eq!(rt; server.waiting(0)?, 8);
-        assert_eq!(rt; server.submit(0, 7, 1).map_err(number), Err(3));
         Ok(())
     }
 

@@ -8,13 +8,12 @@ mod tests {
     use clients::booking::BookingRefusal;
     use ring::booking::RingBooking;
     use ring::ring_server::RingServer;
-    use server::refusal::Refusal;
     use server::server::Server;
     use std::test::Fail;
-    use test_support::playing::{play, serve};
+    use test_support::playing::{play, serve, submit_all};
     use test_support::rates::rate;
     use test_support::submission::Submission;
-    use test_support::submissions;
+    use test_support::{refusals, submissions};
 
     // Two clients of rate 1/2, each with a quantum of 16 in a ring of 32.
     fn pair() -> Result<RingServer, BookingRefusal> {
@@ -145,18 +144,14 @@ mod tests {
         Ok(())
     }
 
+    // At the rate 1/2 each block of 16 is due 32 slots after the one before.
     #[test]
     fn submissions_refused(rt: HostRuntime) -> Result<(), Fail> {
-        let number = Refusal::number;
         let mut server = pair()?;
-        assert_eq!(rt; server.submit(2, 7, 1).map_err(number), Err(1));
-        assert_eq!(rt; server.submit(0, 7, 0).map_err(number), Err(2));
-        assert_eq!(rt; server.submit(0, 7, 17).map_err(number), Err(2));
-        for _ in 0..8 {
-            server.submit(0, 7, 16)?;
-        }
+        let refusals =
+            refusals![absent 2, client 0, length 16, dues 78 110 142 174 206 238 270 302];
+        submit_all(&mut server, &refusals)?;
         assert_eq!(rt; server.waiting(0)?, 8);
-        assert_eq!(rt; server.submit(0, 7, 1).map_err(number), Err(3));
         Ok(())
     }
 

@@ -46,8 +46,9 @@ fn submit<S: Server>(server: &mut S, row: &Submission) -> Result<(), Mismatch>
     Ok(())
 }
 
-// Hands a server the blocks of a table that come in its present slot.
-fn submit_all<S: Server>(server: &mut S, submissions: &[Submission]) -> Result<(), Mismatch>
+// Hands a server the blocks of a table that come in its present slot. After a mismatch the rows above it are
+// entered, and that row too if it was granted.
+pub fn submit_all<S: Server>(server: &mut S, submissions: &[Submission]) -> Result<(), Mismatch>
     ensures { OnOk result (S.Server.named → SubmitsAll S.Server.means S.Server.machine submissions.now (S.Server.state server.old) (S.Server.state server.new)) }
 {
     let slot = server.now();

@@ -19,3 +19,18 @@ macro_rules! submissions {
         }),*]
     };
 }
+
+// A table of what a server must refuse in its first slot: a client that it does not have, the lengths 0 and 17,
+// and one block more than may wait. Before it come the blocks that may, of one length, each with its due.
+#[macro_export]
+macro_rules! refusals {
+    (absent $absent:literal, client $client:literal, length $length:literal, dues $($due:literal)+) => {
+        $crate::submissions![
+            0 $absent 1 Err(1),
+            0 $client 0 Err(2),
+            0 $client 17 Err(2),
+            $(0 $client $length Ok($due),)+
+            0 $client 1 Err(3),
+        ]
+    };
+}
