@@ -7,12 +7,13 @@ use lib.ListN.{length-map}
 use lib.Seq.{map-set}
 use Rattle.std.proofs.lemmas.List.{get_or-map, get_or-set_same, get_or-set_other, take_all, take-append-le}
 use Rattle.std.specs.List.{refill}
-use Rattle.arrayvec.specs.ArrayVec.{ArrayVec, with_items}
+use Rattle.arrayvec.specs.ArrayVec.{ArrayVec, with_item, with_items}
 use Rattle.server.specs.declared.rate.Terms.{Terms}
 use Rattle.server.specs.Meaning.{Client, Meaning}
-use Rattle.server.specs.Calls.{DueAnswer, at, start_at, due_of, entered, granting, submitted}
+use Rattle.server.specs.declared.refusal.Refusal.{Refusal}
+use Rattle.server.specs.Calls.{DueAnswer, view_of, at, start_at, due_of, due_within, entered, accepting, granted, granting, submitted}
 use Rattle.server.proofs.Meanings.{at_is}
-use Rattle.server.proofs.Grants.{grants, granting_is}
+use Rattle.server.proofs.Grants.{accepted, grants, granting_is}
 use Rattle.clients.specs.declared.lane.Lane.{Lane}
 use Rattle.clients.specs.View.{vacant, new_client, client_of, client_in, viewed}
 use Rattle.clients.specs.Held.{Held, Kept}
@@ -68,30 +69,36 @@ pub lane_is : (ls : List Lane) (c : ℕ) (d : Lane) → c < length ls → client
 lane_is ls c d known = get_or-map client_of ls c d (new_client vacant) known
 
 -- lane c becomes l, and its client what f makes of it
-pub written_is : (t : ℕ) (v : ArrayVec Lane) (c : ℕ) (ls : List Lane) (l d : Lane) (f : Client → Client) → c < length v.items → ls ≡ v.items → client_of l ≡ f (client_of (get_or ls c d))
-    → viewed t (with_items v (set ls c l)) ≡ record { count = length v.items; now = t; client = at c f (client_in v.items) }
-written_is t v c ls l d f known same e =
+pub item_is : (t : ℕ) (v : ArrayVec Lane) (c : ℕ) (l was : Lane) (f : Client → Client) → c < length v.items → client_of l ≡ f (client_of (get_or v.items c was))
+    → viewed t (with_item v c l) ≡ record { count = length v.items; now = t; client = at c f (client_in v.items) }
+item_is t v c l was f known e =
     let xs = v.items in
-    let e' : client_of l ≡ f (client_of (get_or xs c d)) = e ∙ ap (λ (ys : List Lane). f (client_of (get_or ys c d))) same in
-    ap (λ (ys : List Lane). viewed t (with_items v (set ys c l))) same
-    ∙ ap (λ (ys : List Lane). record { count = length ys; now = t; client = client_in ys }) (refilled xs (set xs c l) (length-set xs c l))
-    ∙ ap (λ (n : ℕ). record { count = n; now = t; client = client_in (set xs c l) }) (length-set xs c l)
+    ap (λ (n : ℕ). record { count = n; now = t; client = client_in (set xs c l) }) (length-set xs c l)
     ∙ ap (λ (g : ℕ → Client). record { count = length xs; now = t; client = g })
     (at_is c f (client_in xs) (client_in (set xs c l))
     (ap (λ (ys : List Client). get_or ys c (new_client vacant)) (map-set client_of xs c l)
     ∙ get_or-set_same (map client_of xs) c (client_of l) (new_client vacant) (omega (arith, known, length-map xs client_of))
-    ∙ e' ∙ ap f (sym (lane_is xs c d known)))
+    ∙ e ∙ ap f (sym (lane_is xs c was known)))
     (λ k ne. ap (λ (ys : List Client). get_or ys k (new_client vacant)) (map-set client_of xs c l)
     ∙ get_or-set_other (map client_of xs) c k (client_of l) (new_client vacant) ne))
 
+-- the same of a write through the lanes as a slice
+pub written_is : (t : ℕ) (v : ArrayVec Lane) (c : ℕ) (ls : List Lane) (l was : Lane) (f : Client → Client) → c < length v.items → ls ≡ v.items → client_of l ≡ f (client_of (get_or ls c was))
+    → viewed t (with_items v (set ls c l)) ≡ record { count = length v.items; now = t; client = at c f (client_in v.items) }
+written_is t v c ls l was f known same e =
+    let xs = v.items in
+    ap (λ (ys : List Lane). viewed t (with_items v (set ys c l))) same
+    ∙ ap (λ (ys : List Lane). record { count = length ys; now = t; client = client_in ys }) (refilled xs (set xs c l) (length-set xs c l))
+    ∙ item_is t v c l was f known (e ∙ ap (λ (ys : List Lane). f (client_of (get_or ys c was))) same)
+
 -- ## A submission
 
-module _ (t : ℕ) (v : ArrayVec Lane) (c : ℕ) (ls : List Lane) (d : Lane) (known : c < length v.items) (same : ls ≡ v.items) where
+module _ (t : ℕ) (v : ArrayVec Lane) (c : ℕ) (was : Lane) (known : c < length v.items) (same : was ≡ get_or v.items c was) where
   abbrev x : Client
   x = client_in v.items c
 
-  here : client_of (get_or ls c d) ≡ x
-  here = ap (λ (ys : List Lane). client_of (get_or ys c d)) same ∙ sym (lane_is v.items c d known)
+  pub here : client_of was ≡ x
+  here = ap client_of same ∙ sym (lane_is v.items c was known)
 
   module _ (kept : ∥ Kept (viewed t v) ∥₁) where
     held : ∥ Held t x ∥₁
@@ -105,24 +112,27 @@ module _ (t : ℕ) (v : ArrayVec Lane) (c : ℕ) (ls : List Lane) (d : Lane) (kn
         let a : x.terms.rate.p * t ≤ 1024 * 4294967296 = mul-le-mul {n₂ = 1024} {m₂ = 4294967296} (omega (arith, h.ranged.rate, h.ranged.small)) (omega (arith, early)) in
         omega (arith, a, clock_small t x early h))
 
-    pub enter_small : (len : ℕ) → len ≤ 16 → start_at t (client_of (get_or ls c d)) + (client_of (get_or ls c d)).terms.rate.q * len < 2 ^ 64
+    pub enter_small : (len : ℕ) → len ≤ 16 → start_at t (client_of was) + (client_of was).terms.rate.q * len < 2 ^ 64
     enter_small len few =
         let b : x.terms.rate.q * len ≤ 1024 * 16 = ∥∥₁_elim held le_prop (λ h. mul-le-mul {n₂ = 1024} {m₂ = 16} h.ranged.small few) in
         subst (λ (y : Client). start_at t y + y.terms.rate.q * len < 2 ^ 64) (sym here) (omega (arith, b, start_small))
 
-  module _ (len : ℕ) (some : 0 < len) (few : len ≤ 16) (room : length x.waiting < 8) where
-    pub submit_says : ∥ Kept (viewed t v) ∥₁ → (due : ℕ)
-        → due ≡ min (start_at t (client_of (get_or ls c d)) + (client_of (get_or ls c d)).terms.latency) 18446744073709551615 / (client_of (get_or ls c d)).terms.rate.p
-        → ◌≡◌ {A = DueAnswer} (Ok due) (granting (viewed t v) c len)
+  module _ (len : ℕ) (accepts : ◌≡◌ {A = Result (Unit {0}) Refusal} (Ok tt) (accepting (view_of (client_of was)) len)) where
+    grants-it : granted (viewed t v) c len ≡ true
+    grants-it =
+        let h = accepted (view_of (client_of was)) len accepts in
+        grants (viewed t v) c len known h.0 h.1 (omega (arith, h.2, ap (λ (y : Client). length y.waiting) here))
+
+    pub submit_says : ∥ Kept (viewed t v) ∥₁ → (due : ℕ) → due ≡ due_within (client_of was).terms (start_at t (client_of was)) → ◌≡◌ {A = DueAnswer} (Ok due) (granting (viewed t v) c len)
     submit_says kept due e =
         let late : x.terms.latency ≤ 4194304 = ∥∥₁_elim (held kept) le_prop (λ h. h.ranged.most) in
         let fits : min (start_at t x + x.terms.latency) 18446744073709551615 ≡ start_at t x + x.terms.latency = min-eq_left (omega (arith, late, start_small kept)) in
-        let due-is : due ≡ due_of x (start_at t x) = e ∙ ap (λ (y : Client). min (start_at t y + y.terms.latency) 18446744073709551615 / y.terms.rate.p) here ∙ ap (λ (k : ℕ). k / x.terms.rate.p) fits in
+        let due-is : due ≡ due_of x (start_at t x) = e ∙ ap (λ (y : Client). due_within y.terms (start_at t y)) here ∙ ap (λ (k : ℕ). k / x.terms.rate.p) fits in
         let ok : ℕ → DueAnswer = λ k. Ok k in
-        ap ok due-is ∙ sym (granting_is (viewed t v) c len (grants (viewed t v) c len known some few room))
+        ap ok due-is ∙ sym (granting_is (viewed t v) c len grants-it)
 
-    pub submit_leaves : (label : ℕ) (l : Lane) → client_of l ≡ entered t label len (client_of (get_or ls c d)) → viewed t (with_items v (set ls c l)) ≡ submitted (viewed t v) c label len
+    pub submit_leaves : (label : ℕ) (l : Lane) → client_of l ≡ entered t label len (client_of was) → viewed t (with_item v c l) ≡ submitted (viewed t v) c label len
     submit_leaves label l e =
         let after : Meaning = record { count = length v.items; now = t; client = at c (entered t label len) (client_in v.items) } in
-        written_is t v c ls l d (entered t label len) known same e
-        ∙ sym (ap (λ (b : Bool). cond {A = Meaning} b after (viewed t v)) (grants (viewed t v) c len known some few room))
+        item_is t v c l was (entered t label len) known (e ∙ ap (λ (y : Lane). entered t label len (client_of y)) same)
+        ∙ sym (ap (λ (b : Bool). cond {A = Meaning} b after (viewed t v)) grants-it)

@@ -4,4 +4,4 @@ use Rattle.clients.specs.declared.table.Clients.{Clients}
 use Rattle.clients.specs.View.{viewed}
 
 abbrev pub meaning : Clients → Meaning
-meaning x = viewed x.now x.lanes
+meaning x = viewed x.slots x.lanes

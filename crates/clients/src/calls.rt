@@ -20,7 +20,7 @@ impl Clients {
         ensures { meaning result ≡ no_clients }
     {
         Clients {
-            now: 0,
+            slots: 0,
             lanes: ArrayVec::new(),
         }
     }
@@ -28,8 +28,8 @@ impl Clients {
     // A client of these terms takes the next place; refused, and nothing changed, where there is none
     // or the terms are outside their ranges.
     pub fn admit(&mut self, terms: Terms) -> Result<(), NotAdmitted>
-        ensures answers { result ≡ admission (meaning self.entry.now) terms }
-        ensures leaves { meaning self.exit.now ≡ admitted (meaning self.entry.now) terms }
+        ensures answers { result ≡ admission (meaning self.old) terms }
+        ensures leaves { meaning self.new ≡ admitted (meaning self.old) terms }
     {
         if !in_range(terms) {
             return Err(NotAdmitted);
@@ -40,76 +40,77 @@ impl Clients {
     }
 
     pub fn count(&self) -> u8
-        ensures { result ≡ (meaning self.entry.now).count }
+        ensures { result ≡ (meaning self.now).count }
     {
         // At most eight.
         self.lanes.len() as u8
     }
 
     pub fn now(&self) -> u32
-        ensures { result ≡ (meaning self.entry.now).now }
+        ensures { result ≡ (meaning self.now).now }
     {
-        self.now
+        self.slots
     }
 
     // All that is told of a client.
     pub fn view(&self, client: u8) -> Result<View, Refusal>
-        ensures { result ≡ asked (meaning self.entry.now) client view_of }
+        ensures { result ≡ asked (meaning self.now) client view_of }
     {
         Ok(self.lane(client)?.view())
     }
 
     // Whether the client has a waiting block.
     pub fn waits(&self, client: u8) -> bool
-        ensures { result ≡ waits_in (meaning self.entry.now) client }
+        ensures { result ≡ waits_in (meaning self.now) client }
     {
         self.front(client).is_some()
     }
 
     // The client's oldest waiting block.
     pub fn front(&self, client: u8) -> Option<Block>
-        ensures { result ≡ front_at (meaning self.entry.now) client }
+        ensures { result ≡ front_at (meaning self.now) client }
     {
         self.lane(client).ok()?.queue.first().copied()
     }
 
     // A block of the client: its due, or a refusal that leaves the table as it was.
     pub fn submit(&mut self, client: u8, label: u32, units: u8) -> Result<u64, Refusal>
-        ensures answers { result ≡ granting (meaning self.entry.now) client units }
-        ensures leaves { meaning self.exit.now ≡ submitted (meaning self.entry.now) client label units }
+        ensures answers { result ≡ granting (meaning self.old) client units }
+        ensures leaves { meaning self.new ≡ submitted (meaning self.old) client label units }
     {
-        self.view(client)?.accept(units)?;
-        Ok(self.lanes[client as usize].enter(label, units, self.now))
+        let lane = self
+            .lanes
+            .get_mut(usize::from(client))
+            .ok_or(Refusal::NoClient)?;
+        lane.view().accept(units)?;
+        Ok(lane.enter(label, units, self.slots))
     }
 
     // One slot, which serves the chosen client if it has a waiting block.
     pub fn slot(&mut self, who: Option<u8>) -> Result<Served, Refusal>
-        ensures answers { result ≡ slot_says (meaning self.entry.now) who }
-        ensures leaves { meaning self.exit.now ≡ slot_leaves (meaning self.entry.now) who }
+        ensures answers { result ≡ slot_says (meaning self.old) who }
+        ensures leaves { meaning self.new ≡ slot_leaves (meaning self.old) who }
     {
-        if self.now == u32::MAX {
-            return Err(Refusal::Ended);
-        }
         let served = self.served_by(who);
-        self.now += 1;
+        self.slots = self.slots.checked_add(1).ok_or(Refusal::Ended)?;
         match served {
-            Some(client) => Ok(self.lanes[client as usize].serve(client)),
+            Some(client) => Ok(self.lanes[usize::from(client)].serve(client)),
             None => Ok(Served::Nothing),
         }
     }
 
     // Whom a slot serves: the chosen client, if it has a waiting block.
     fn served_by(&self, who: Option<u8>) -> Option<u8>
-        ensures { result ≡ served_client (meaning self.entry.now) who }
+        ensures { result ≡ served_client (meaning self.now) who }
     {
         who.filter(|client| self.waits(*client))
     }
 
     // The client's lane, if there is such a client.
     fn lane(&self, client: u8) -> Result<&Lane, Refusal>
-        ensures known { IfOk result (λ l. (client < (meaning self.entry.now).count) × (client_of l.now ≡ (meaning self.entry.now).client client)) }
-        ensures unknown { IfErr result (λ e. ((meaning self.entry.now).count ≤ client) × (e ≡ NoClient)) }
+        ensures known { IfOk result (λ l. (client < (meaning self.now).count) × (client_of l.now ≡ (meaning self.now).client client)) }
+        ensures unknown { IfErr result (λ e. ((meaning self.now).count ≤ client) × (e ≡ NoClient)) }
     {
-        self.lanes.get(client as usize).ok_or(Refusal::NoClient)
+        self.lanes.get(usize::from(client)).ok_or(Refusal::NoClient)
     }
 }

@@ -1,5 +1,5 @@
-ghost use Rattle.std.specs.Prelude.{◌≡◌, ◌+◌, ◌*◌, ◌/◌, ◌^◌, ◌<◌, min, length};
-ghost use Rattle.server.specs.Calls.{entered, gone, serve as served, start_at, view_of};
+ghost use Rattle.std.specs.Prelude.{◌≡◌, ◌+◌, ◌*◌, ◌^◌, ◌<◌, length};
+ghost use Rattle.server.specs.Calls.{due_within, entered, gone, serve as served, start_at, view_of};
 ghost use Rattle.clients.specs.View.{client_of, new_client};
 
 use arrayvec::ArrayVec;
@@ -41,12 +41,12 @@ impl Lane {
     pub(crate) fn enter(&mut self, label: u32, units: u8, slot: u32) -> u64
         requires room { length (client_of self.old).waiting < 8 }
         requires small { start_at slot (client_of self.old) + (client_of self.old).terms.rate.q * units < 2 ^ 64 }
-        ensures answers { result ≡ min (start_at slot (client_of self.old) + (client_of self.old).terms.latency) 18446744073709551615 / (client_of self.old).terms.rate.p }
+        ensures answers { result ≡ due_within (client_of self.old).terms (start_at slot (client_of self.old)) }
         ensures leaves { client_of self.new ≡ entered slot label units (client_of self.old) }
     {
         let rate = self.terms.rate;
         let start = rate.start_at(self.clock, slot);
-        self.clock = start + u64::from(rate.q) * u64::from(units);
+        self.clock = start + rate.ticks(units);
         self.queue.push(Block {
             label,
             length: units,
@@ -56,19 +56,19 @@ impl Lane {
         self.terms.due(start)
     }
 
-    // One unit of the front block goes, which is the client's of this number.
+    // One unit of the front block goes. The lane does not know its client's number, which the answer tells.
     pub(crate) fn serve(&mut self, client: u8) -> Served
         ensures answers { result ≡ gone client (client_of self.old).waiting }
         ensures leaves { client_of self.new ≡ served (client_of self.old) }
     {
-        let Some(front) = self.queue.first().copied() else {
+        let Some(front) = self.queue.first_mut() else {
             return Served::Nothing;
         };
         if front.left > 1 {
-            self.queue[0].left = front.left - 1;
+            front.left -= 1;
             return Served::Unit(client);
         }
-        self.queue.remove(0);
+        let front = self.queue.remove(0);
         Served::Departed(Departure {
             client,
             label: front.label,

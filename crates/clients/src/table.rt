@@ -8,7 +8,7 @@ use arrayvec::ArrayVec;
 // The clients of a server, at most eight, and its slot counter.
 #[derive(Drop)]
 pub struct Clients {
-    pub(crate) now: u32,
+    pub(crate) slots: u32,
     pub(crate) lanes: ArrayVec<Lane, 8>,
-    ghost kept: { ∥ Kept (viewed now lanes) ∥₁ },
+    ghost kept: { ∥ Kept (viewed slots lanes) ∥₁ },
 }

@@ -8,16 +8,14 @@ use server::rate::{Rate, Terms};
 pub fn rate_in_range(rate: Rate) -> bool
     ensures { result ≡ rate_ok rate }
 {
-    1 <= rate.p && rate.p <= rate.q && rate.q <= 1024
+    (1..=rate.q).contains(&rate.p) && rate.q <= 1024
 }
 
 // Whether the terms are within their ranges.
 pub(crate) fn in_range(terms: Terms) -> bool
     ensures { result ≡ terms_ok terms }
 {
-    rate_in_range(terms.rate)
-        && u32::from(terms.rate.p) <= terms.latency
-        && terms.latency <= 4194304
+    rate_in_range(terms.rate) && (u32::from(terms.rate.p)..=4194304).contains(&terms.latency)
 }
 
 // The latency in ticks of a client that is late by at most `theta` slots.

@@ -42,38 +42,38 @@ impl CreditBooking {
         Ok(())
     }
 
-    // Reserves the rate for the next client, with a step that must carry it and a cap on its credit. The three
-    // go no further than this call, so no struct holds them.
+    // Reserves the rate for the next client, with a step that must carry it and a cap on its credit.
     pub fn reserve(&mut self, rate: Rate, step: u32, cap: u32) -> Result<(), BookingRefusal>
         ensures answers { result ≡ reserve_says (booked_in self.old) rate step «cap» }
         ensures leaves { booked_in self.new ≡ reserved (booked_in self.old) rate step «cap» }
     {
-        let terms = self.next_terms(rate, step, cap)?;
-        let server = &mut self.server;
-        server.clients.admit(terms)?;
-        server.shares.push(Share {
+        let share = Share {
             step,
             cap,
             credit: cap,
-        });
+        };
+        let terms = self.next_terms(rate, share)?;
+        let server = &mut self.server;
+        server.clients.admit(terms)?;
+        server.shares.push(share);
         Ok(())
     }
 
     // The terms of the next client if it had a place: its latency is by the shares of those before it.
-    fn next_terms(&self, rate: Rate, step: u32, cap: u32) -> Result<Terms, BookingRefusal>
-        ensures { result ≡ terms_say (booked_in self.now) rate step «cap» }
+    fn next_terms(&self, rate: Rate, share: Share) -> Result<Terms, BookingRefusal>
+        ensures { result ≡ terms_say (booked_in self.now) rate share.step share.«cap» }
     {
         if !rate_in_range(rate) {
             return Err(BookingRefusal::Rate);
         }
-        if !self.server.share_in_range(step, cap) {
+        if !self.server.in_range(share) {
             return Err(BookingRefusal::Range);
         }
-        if u32::from(rate.p) * self.server.denominator > step * u32::from(rate.q) {
+        if u32::from(rate.p) * self.server.denominator > share.step * u32::from(rate.q) {
             return Err(BookingRefusal::Share);
         }
         let rest = self.server.rest();
-        if step > rest {
+        if share.step > rest {
             return Err(BookingRefusal::Over);
         }
         Ok(terms_of(rate, self.server.caps().div_ceil(rest)))
@@ -89,12 +89,12 @@ impl CreditBooking {
 }
 
 impl CreditServer {
-    // Whether the step and the cap are within their ranges.
-    fn share_in_range(&self, step: u32, cap: u32) -> bool
-        ensures { result ≡ share_ok self.now.denominator step «cap» }
+    // Whether the share's step and cap are within their ranges.
+    fn in_range(&self, share: Share) -> bool
+        ensures { result ≡ share_ok self.now.denominator share.step share.«cap» }
     {
-        let denominator = self.denominator;
-        (1..=denominator).contains(&step) && (denominator..=64 * denominator).contains(&cap)
+        let whole = self.denominator;
+        (1..=whole).contains(&share.step) && (whole..=64 * whole).contains(&share.cap)
     }
 
     // What the clients' steps leave of the denominator.

@@ -78,7 +78,6 @@ impl FrameBooking {
         ensures state { state_of result ≡ booked_in self }
         ensures unused { ∥ Unused (state_of result).clients ∥₁ }
     {
-        let FrameBooking { server } = self;
-        server
+        self.server
     }
 }

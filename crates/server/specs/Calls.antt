@@ -1,8 +1,9 @@
 -- What each call of a server answers and what it makes of the meaning. Assumes nothing.
-use Rattle.std.specs.Prelude.{◌≡◌, ℕ, ◌+◌, ◌-◌, ◌*◌, ◌/◌, ◌<◌, max, Bool, cond, ◌&&◌, List, [], ◌∷◌, ◌++◌, length, Ok, Err, Result, ◌==◌, nat_le, nat_lt}
+use Rattle.std.specs.Prelude.{◌≡◌, ℕ, ◌+◌, ◌-◌, ◌*◌, ◌/◌, ◌<◌, min, max, Bool, cond, ◌&&◌, List, [], ◌∷◌, ◌++◌, length, Ok, Err, Result, ◌==◌, nat_le, nat_lt}
 use Rattle.server.specs.declared.block.Block.{Block}
 use Rattle.server.specs.declared.block.Served.{Served}
 use Rattle.server.specs.declared.block.Served.TheVariants.{Nothing, Unit as OneUnit, Departed}
+use Rattle.server.specs.declared.rate.Terms.{Terms}
 use Rattle.server.specs.declared.refusal.Refusal.{Refusal}
 use Rattle.server.specs.declared.refusal.Refusal.TheVariants.{NoClient, BadLength, Full, Ended}
 use Rattle.server.specs.declared.view.View.{View}
@@ -35,6 +36,14 @@ start_at t x = max (x.terms.rate.p * t) x.clock
 -- the slot by which a block of this start has left
 abbrev pub due_of : Client → ℕ → ℕ
 due_of x start = (start + x.terms.latency) / x.terms.rate.p
+
+-- the same as 64 bits hold it: the sum is cut where they end, which no server reaches
+abbrev pub due_within : Terms → ℕ → ℕ
+due_within x start = min (start + x.latency) 18446744073709551615 / x.rate.p
+
+-- a latency in slots, rounded up
+abbrev pub slots_of : Terms → ℕ
+slots_of x = (x.latency + (x.rate.p - 1)) / x.rate.p
 
 -- the block that enters
 abbrev pub new_block : ℕ → Client → ℕ → ℕ → Block

@@ -10,5 +10,5 @@ pub invariant_of-self : goal.invariant_of-self
 invariant_of-self c =
     let x = c.args.self.now in
     let p = c.try_push.ensures in
-    let e = pushed_is x.now x.lanes c.try_push.new.self c.new.result c.args.terms c.try_push.result c.new.ensures (sym c.if-not-in_range.ensures) p.variant.1 p.variant.0 p.ok p.err in
-    record { kept = ∥∥₁_map x.kept (λ g. subst Kept (sym e) (kept_admitted (viewed x.now x.lanes) c.args.terms g)) }
+    let e = pushed_is x.slots x.lanes c.try_push.new.self c.new.result c.args.terms c.try_push.result c.new.ensures (sym c.if-not-in_range.ensures) p.variant.1 p.variant.0 p.ok p.err in
+    record { kept = ∥∥₁_map x.kept (λ g. subst Kept (sym e) (kept_admitted (viewed x.slots x.lanes) c.args.terms g)) }

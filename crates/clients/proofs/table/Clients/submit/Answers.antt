@@ -1,10 +1,10 @@
-use Rattle.std.proofs.Common.{sym, ap, subst, arith}
+use Rattle.std.proofs.Common.{◌≡◌, ◌<◌, ℕ, Ok, length, get_or, sym, ap, ◌∙◌, subst, rules}
 use mathlib.Core.Logic.{∥∥₁_map}
 use Rattle.server.specs.declared.view.View.{View}
-use Rattle.server.specs.Calls.{view_of}
-use Rattle.server.proofs.Grants.{accepted, asked_ok}
+use Rattle.server.specs.Calls.{accepting, view_of, granting, submitted}
+use Rattle.server.proofs.Grants.{accepted}
 use Rattle.clients.specs.Held.{Kept}
-use Rattle.clients.specs.View.{viewed}
+use Rattle.clients.specs.View.{viewed, client_of}
 use Rattle.clients.proofs.Kept.{kept_submitted}
 use Rattle.clients.proofs.Places.{enter_small, submit_says, submit_leaves}
 use Rattle.clients.proofs.table.Clients.submit.Goals as goal
@@ -12,34 +12,36 @@ use Rattle.clients.proofs.table.Clients.submit.Goals as goal
 pub enter-requires-clause-small : goal.enter-requires-clause-small
 enter-requires-clause-small c =
     let x = c.args.self.now in
-    let view = c.in_ok-view.field-0 in
-    let a = asked_ok (viewed x.now x.lanes) c.args.client view view_of c.in_ok-view.ensures in
-    let h = accepted view c.args.units c.in_ok-accept.ensures in
-    enter_small x.now x.lanes c.args.client c.deref_mut.result.now c.index-deref_mut-client.result a.0 c.deref_mut.ensures.value x.kept c.args.units h.1
+    let was = c.in_ok-lane.lane.now in
+    let i = c.from.result in
+    let known : i < length x.lanes.items = search rules in
+    let same : was ≡ get_or x.lanes.items i was = search rules in
+    let accepts : Ok tt ≡ accepting (view_of (client_of was)) c.args.units = c.in_ok-accept.ensures ∙ ap (λ (v : View). accepting v c.args.units) c.view.ensures in
+    enter_small x.slots x.lanes i was known same x.kept c.args.units (accepted (view_of (client_of was)) c.args.units accepts).1
 
-pub invariant_of-self : goal.invariant_of-self
-invariant_of-self c =
+pub invariant_of-self-2 : goal.invariant_of-self-2
+invariant_of-self-2 c =
     let x = c.args.self.now in
-    let m = viewed x.now x.lanes in
-    let view = c.in_ok-view.field-0 in
-    let a = asked_ok m c.args.client view view_of c.in_ok-view.ensures in
-    let h = accepted view c.args.units c.in_ok-accept.ensures in
-    let w = ap (λ (v : View). v.waiting) a.1 in
-    let e = submit_leaves x.now x.lanes c.args.client c.deref_mut.result.now c.index-deref_mut-client.result a.0 c.deref_mut.ensures.value c.args.units h.0 h.1 (omega (arith, w, h.2))
-    c.args.label c.enter.new.self c.enter.ensures.leaves in
-    record { kept = ∥∥₁_map x.kept (λ g. subst Kept (sym e) (kept_submitted m c.args.client c.args.label c.args.units g)) }
+    let was = c.in_ok-lane.lane.now in
+    let i = c.from.result in
+    let known : i < length x.lanes.items = search rules in
+    let same : was ≡ get_or x.lanes.items i was = search rules in
+    let accepts : Ok tt ≡ accepting (view_of (client_of was)) c.args.units = c.in_ok-accept.ensures ∙ ap (λ (v : View). accepting v c.args.units) c.view.ensures in
+    let e = submit_leaves x.slots x.lanes i was known same c.args.units accepts c.args.label c.enter.new.self c.enter.ensures.leaves in
+    record { kept = ∥∥₁_map x.kept (λ g. subst Kept (sym e) (kept_submitted (viewed x.slots x.lanes) i c.args.label c.args.units g)) }
 
 pub returns : goal.returns
 returns c =
     let x = c.args.self.now in
-    let m = viewed x.now x.lanes in
-    let view = c.in_ok-view.field-0 in
-    let a = asked_ok m c.args.client view view_of c.in_ok-view.ensures in
-    let h = accepted view c.args.units c.in_ok-accept.ensures in
-    let w = ap (λ (v : View). v.waiting) a.1 in
+    let was = c.in_ok-lane.lane.now in
+    let i = c.from.result in
+    let known : i < length x.lanes.items = search rules in
+    let same : was ≡ get_or x.lanes.items i was = search rules in
+    let accepts : Ok tt ≡ accepting (view_of (client_of was)) c.args.units = c.in_ok-accept.ensures ∙ ap (λ (v : View). accepting v c.args.units) c.view.ensures in
+    let m = viewed x.slots x.lanes in
     record {
-      answers = submit_says x.now x.lanes c.args.client c.deref_mut.result.now c.index-deref_mut-client.result a.0 c.deref_mut.ensures.value c.args.units h.0 h.1 (omega (arith, w, h.2))
-          x.kept c.enter.result c.enter.ensures.answers;
-      leaves = submit_leaves x.now x.lanes c.args.client c.deref_mut.result.now c.index-deref_mut-client.result a.0 c.deref_mut.ensures.value c.args.units h.0 h.1 (omega (arith, w, h.2))
-          c.args.label c.enter.new.self c.enter.ensures.leaves;
+      answers = submit_says x.slots x.lanes i was known same c.args.units accepts x.kept c.enter.result c.enter.ensures.answers
+          ∙ ap (λ (k : ℕ). granting m k c.args.units) c.from.ensures;
+      leaves = submit_leaves x.slots x.lanes i was known same c.args.units accepts c.args.label c.enter.new.self c.enter.ensures.leaves
+          ∙ ap (λ (k : ℕ). submitted m k c.args.label c.args.units) c.from.ensures;
     }
