@@ -13,7 +13,8 @@ impl CreditServer {
         requires { Pays self.now.denominator who self.now.shares.items }
         ensures { result.items ≡ by_place (earned_in (meaning self.now.clients) self.now.denominator who) 0 self.now.shares.items }
     {
-        // A loop, since `collect` would answer that the items may not fit, which cannot be.
+        // A loop and no `extend`: what `after` asks of a share is known of its place, and a closure of `map` is
+        // given no place of which more is known than its number.
         let mut shares = ArrayVec::new();
         for (place, share) in self.shares.iter().enumerate() {
             // At most eight places, so each is a client's number.

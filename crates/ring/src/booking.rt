@@ -9,7 +9,8 @@ use crate::shares::Shares;
 #[derive(Drop)]
 pub struct RingBooking {
     pub(crate) shares: Shares,
-    ghost ranged: { (16 ≤ shares.total) × (shares.total ≤ 8192) },
+    ghost least: { 16 ≤ shares.total },
+    ghost most: { shares.total ≤ 8192 },
     ghost within: { sum (count_in shares) (quantum_in shares) ≤ shares.total },
     ghost carried: { (k : ℕ) → k < count_in shares → Carried shares k },
 }

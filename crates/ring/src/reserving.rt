@@ -44,7 +44,8 @@ impl Shares {
     fn fresh_ring(&self) -> Ring
         ensures { result ≡ fresh_ring self.now }
     {
-        // A loop, since `collect` would answer that the places may not fit, which cannot be.
+        // A loop, since `extend` would answer that the places may not fit, which would have to be shown of an
+        // iterator in place of one place.
         let mut places = ArrayVec::new();
         for share in self.reserved.iter() {
             places.push(Place {
@@ -100,8 +101,8 @@ impl RingBooking {
         if !quantum_in_range(quantum) {
             return Err(BookingRefusal::Range);
         }
-        let carried = u64::from(rate.p) * u64::from(self.shares.total);
-        if carried > u64::from(quantum) * u64::from(rate.q) {
+        let asked = u64::from(rate.p) * u64::from(self.shares.total);
+        if asked > u64::from(quantum) * u64::from(rate.q) {
             return Err(BookingRefusal::Share);
         }
         if self.shares.used() + u64::from(quantum) > u64::from(self.shares.total) {
@@ -126,7 +127,8 @@ impl RingBooking {
 
     // The slots by which a client of this quantum may be late.
     fn theta(&self, quantum: u32) -> u32
-        requires { (16 ≤ quantum) × (quantum ≤ self.now.shares.total) }
+        requires some { 16 ≤ quantum }
+        requires within { quantum ≤ self.now.shares.total }
         ensures { result ≡ theta_of (count_in (booked_in self.now)) (booked_in self.now).total quantum }
     {
         let shares = &self.shares;

@@ -2,6 +2,7 @@ ghost use Rattle.std.specs.Prelude.{◌≡◌, ◌+◌, ◌-◌, ◌^◌, ◌<�
 ghost use Rattle.clients.specs.Meant.{meaning};
 ghost use Rattle.clients.specs.Serving.{waits};
 ghost use Rattle.ring.specs.Turns.{place_of, quantum_of, deficit_of, stands_open, next_of, seek, length_of, next_rest, rest_read, turn_to};
+ghost use Rattle.ring.specs.declared.turns.Turn.TheVariants.{Open, Closed};
 
 use crate::ring_server::RingServer;
 use crate::turns::{Place, Rest, Ring, Turn};
@@ -14,6 +15,7 @@ impl RingServer {
         ensures { let m = meaning self.now.clients in result ≡ seek m.count (waits m) m.count (next_of m.count last) }
     {
         let count = self.clients.count();
+        // The clients behind it, and then all: those behind it once more have no block, or were found.
         (last + 1..count)
             .chain(0..count)
             .find(|client| self.clients.waits(*client))
@@ -40,7 +42,8 @@ impl Ring {
 
     // The client's deficit once its front block, of this many units, has begun.
     pub(crate) fn begun_with(&self, client: u8, units: u8) -> u32
-        requires { (deficit_of self.now client + quantum_of self.now client < 2 ^ 32) × (units ≤ deficit_of self.now client + quantum_of self.now client) }
+        requires small { deficit_of self.now client + quantum_of self.now client < 2 ^ 32 }
+        requires enough { units ≤ deficit_of self.now client + quantum_of self.now client }
         ensures { result ≡ (if stands_open self.now.turn then deficit_of self.now client else deficit_of self.now client + quantum_of self.now client - units) }
     {
         let place = self.place(client);
@@ -61,24 +64,39 @@ impl Ring {
     }
 }
 
+impl Rest {
+    // The client's turn goes on.
+    fn open(client: u8, deficit: u32) -> Rest
+        ensures { result ≡ record { deficit = deficit; turn = Open client } }
+    {
+        Rest {
+            deficit,
+            turn: Turn::Open(client),
+        }
+    }
+
+    // The client's turn is over.
+    fn closed(client: u8, deficit: u32) -> Rest
+        ensures { result ≡ record { deficit = deficit; turn = Closed client } }
+    {
+        Rest {
+            deficit,
+            turn: Turn::Closed(client),
+        }
+    }
+}
+
 // What is left of the client's turn when a block has given its last unit: the deficit is cleared if
 // no block is next, and kept if the next is longer than it; else the next begins.
 fn rest_after(client: u8, deficit: u32, next: Option<Block>) -> Rest
     ensures { result ≡ next_rest client deficit next }
 {
-    match next {
-        None => Rest {
-            deficit: 0,
-            turn: Turn::Closed(client),
-        },
-        Some(block) if u32::from(block.length) <= deficit => Rest {
-            deficit: deficit - u32::from(block.length),
-            turn: Turn::Open(client),
-        },
-        Some(_) => Rest {
-            deficit,
-            turn: Turn::Closed(client),
-        },
+    let Some(block) = next else {
+        return Rest::closed(client, 0);
+    };
+    match deficit.checked_sub(u32::from(block.length)) {
+        Some(left) => Rest::open(client, left),
+        None => Rest::closed(client, deficit),
     }
 }
 
@@ -88,13 +106,7 @@ pub(crate) fn rest_given(client: u8, deficit: u32, served: Served, next: Option<
 {
     match served {
         Served::Departed(_) => rest_after(client, deficit, next),
-        Served::Unit(_) => Rest {
-            deficit,
-            turn: Turn::Open(client),
-        },
-        Served::Nothing => Rest {
-            deficit,
-            turn: Turn::Closed(client),
-        },
+        Served::Unit(_) => Rest::open(client, deficit),
+        Served::Nothing => Rest::closed(client, deficit),
     }
 }

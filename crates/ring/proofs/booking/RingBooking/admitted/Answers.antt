@@ -3,7 +3,10 @@ use Rattle.ring.proofs.Reservations.{next_ranged, next_in}
 use Rattle.ring.proofs.booking.RingBooking.admitted.Goals as goal
 
 pub theta-requires : goal.theta-requires
-theta-requires c = let b = c.args.self.now in next_ranged b.shares b.within b.carried _ c.deref-share-items.ensures c.loop-share.share-index c.loop-share-test.true
+theta-requires c =
+    let b = c.args.self.now in
+    let q = next_ranged b.shares b.within b.carried _ c.deref-share-items.ensures c.loop-share.share-index c.loop-share-test.true in
+    record { some = q.0; within = q.1 }
 
 pub unwrap-requires : goal.unwrap-requires
 unwrap-requires c =

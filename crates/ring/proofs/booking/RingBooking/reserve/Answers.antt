@@ -14,4 +14,4 @@ invariant_of-self c =
     let ranged : quantum_ok φ ≡ true = sym c.if-not-quantum_in_range.ensures in
     let carried : carries b.shares.total x φ ≡ true = le-leb (x.p * b.shares.total) (φ * x.q) (omega (arith, low, high)) in
     let fits = fits_after b x φ c.try_push.new.self c.try_push.result push.ok push.err (omega (arith, c.used.ensures)) (sym c.if-not-rate_in_range.ensures, ranged, carried) in
-    record { ranged = b.ranged; within = fits.0; carried = fits.1 }
+    record { least = b.least; most = b.most; within = fits.0; carried = fits.1 }

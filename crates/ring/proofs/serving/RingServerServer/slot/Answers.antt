@@ -26,7 +26,8 @@ begun_with-begun-requires c =
     let x = c.args.self.now in
     let client = c.in-Some.client in
     let turn = c.in-Some.ensures in
-    begun_fits x client turn c.length_of.result (c.length_of.ensures ∙ ap length_of c.front.ensures)
+    let fits = begun_fits x client turn c.length_of.result (c.length_of.ensures ∙ ap length_of c.front.ensures) in
+    record { small = fits.0; enough = fits.1 }
 
 pub returns-in_err-served : goal.returns-in_err-served
 returns-in_err-served c =
