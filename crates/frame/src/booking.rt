@@ -38,10 +38,11 @@ impl FrameBooking {
         ensures answers { result ≡ frame_says (booked_in self.old) owners.now }
         ensures leaves { booked_in self.new ≡ frame_set (booked_in self.old) owners.now }
     {
-        if self.server.clients.count() > 0 {
+        let server = &mut self.server;
+        if server.clients.count() > 0 {
             return Err(BookingRefusal::Reserved);
         }
-        self.server.frame = Frame::try_from(owners)?;
+        server.frame = Frame::try_from(owners)?;
         Ok(())
     }
 
@@ -51,8 +52,7 @@ impl FrameBooking {
         ensures leaves { booked_in self.new ≡ reserved (booked_in self.old) rate }
     {
         let terms = self.next_terms(rate)?;
-        self.server.clients.admit(terms)?;
-        Ok(())
+        Ok(self.server.clients.admit(terms)?)
     }
 
     // The terms of the next client if it had a place: its latency is by the slots that are not its own.
