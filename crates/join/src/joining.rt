@@ -25,12 +25,10 @@ impl<A: Server, B: Server> Chain<A, B> {
     }
 }
 
-// The clients of a chain of two servers: the first's, or none where they do not fit.
+// The clients of a chain of two servers: the first's, or none where they do not fit. Why they do not is `fit`'s
+// to tell: a chain of two that do not fit is a server as well.
 fn clients_of<A: Server, B: Server>(first: &A, second: &B) -> u8
     ensures { result ≡ chain_clients (fitting (A.Server.means (A.Server.state first.now)) (B.Server.means (B.Server.state second.now))) (A.Server.means (A.Server.state first.now)) }
 {
-    match fit(first, second) {
-        Ok(()) => first.clients(),
-        Err(_) => 0,
-    }
+    fit(first, second).map_or(0, |()| first.clients())
 }

@@ -55,6 +55,7 @@ impl<A: Server, B: Server> Server for Chain<A, B> {
     fn submit(&mut self, client: u8, label: u32, length: u8) -> Result<u64, Refusal> {
         let view = self.view(client)?;
         view.accept(length)?;
+        // Granted, since fewer wait in the first than in both.
         let _ = self.first.submit(client, label, length);
         let start = view.terms.rate.start_at(view.clock, self.now);
         Ok(view.terms.due(start))
@@ -62,10 +63,7 @@ impl<A: Server, B: Server> Server for Chain<A, B> {
 
     // The second serves, then the first, then what departed from the first goes to the second.
     fn slot(&mut self) -> Result<Served, Refusal> {
-        if self.now == u32::MAX {
-            return Err(Refusal::Ended);
-        }
-        self.now += 1;
+        self.now = self.now.checked_add(1).ok_or(Refusal::Ended)?;
         if self.clients == 0 {
             return Ok(Served::Nothing);
         }
@@ -78,7 +76,8 @@ impl<A: Server, B: Server> Server for Chain<A, B> {
     }
 }
 
-// Submits to the second what departed from the first.
+// Submits to the second what departed from the first. It grants what fits into the chain, and a server that did
+// not would break its laws, so nothing is lost with its answer.
 fn hand<B: Server>(second: &mut B, came: Result<Served, Refusal>)
     ensures leaves { B.Server.means (B.Server.state second.new) ≡ handed came (B.Server.means (B.Server.state second.old)) }
     ensures exactly { B.Server.named → B.Server.state second.new ≡ handed_on B.Server.machine came (B.Server.state second.old) }

@@ -4,7 +4,8 @@ use arrayvec::ArrayVec;
 use server::block::{Departure, Served};
 use server::refusal::Refusal;
 
-// For each client the starts in the first server of its blocks that wait in the second, oldest first.
+// For each client the starts in the first server of its blocks that wait in the second, oldest first. A row is
+// written by its index: of `get_mut` of an array a proof does not learn what the array is after it.
 #[derive(Drop)]
 pub(crate) struct Starts {
     pub(crate) rows: [ArrayVec<u64, 8>; 8],
