@@ -1,5 +1,5 @@
 -- What a server's calls are to its meaning, and runs of them. Assumes nothing.
-use Rattle.std.specs.Prelude.{◌≡◌, List, [], ◌∷◌, length}
+use Rattle.std.specs.Prelude.{◌≡◌, ℕ, min, List, [], ◌∷◌, length}
 use Rattle.server.specs.Meaning.{Meaning}
 use Rattle.server.specs.Calls.{asked, granting, submitted, Slotted}
 use Rattle.server.specs.Laws.{Lawful}
@@ -18,6 +18,10 @@ abbrev pub call_of : Event → Call
 call_of (Submit o r) = DoSubmit o
 call_of (Slot r) = DoSlot
 call_of (Ask q a) = DoAsk q
+
+-- how many calls are made: all, or as many as there is room for
+abbrev pub made : List Call → List Event → ℕ
+made calls room = min (length calls) (length room)
 
 -- what a question is answered
 abbrev pub reply : Meaning → Question → Reply

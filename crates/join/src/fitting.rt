@@ -1,6 +1,7 @@
 ghost use Rattle.std.specs.Prelude.{◌≡◌, Bool};
 ghost use Rattle.server.specs.declared.view.View.{View as Seen};
 ghost use Rattle.join.specs.Fit.{have_same_rate, are_idle, is_in_reach, each as each_of, passes as passes_both, Tells, fitting};
+ghost use Rattle.server.specs.Meant.{meant};
 
 use crate::fit::Misfit;
 use server::server::Server;
@@ -32,8 +33,8 @@ fn passes<A: Server, B: Server, T: Fn(View, View) -> bool>(
     client: u8,
 ) -> bool
     requires { T.IsAlwaysCallable test.now }
-    ensures { (told : Seen → Seen → Bool) → Tells (λ a b r. T.post test.now a b r) told → (A.Server.means (A.Server.state first.now)).count ≡ (B.Server.means (B.Server.state second.now)).count
-        → result ≡ passes_both told (A.Server.means (A.Server.state first.now)) (B.Server.means (B.Server.state second.now)) client }
+    ensures { (told : Seen → Seen → Bool) → Tells (λ a b r. T.post test.now a b r) told → (meant A.Server first.now).count ≡ (meant B.Server second.now).count
+        → result ≡ passes_both told (meant A.Server first.now) (meant B.Server second.now) client }
 {
     match (first.view(client), second.view(client)) {
         (Ok(a), Ok(b)) => test(a, b),
@@ -44,15 +45,15 @@ fn passes<A: Server, B: Server, T: Fn(View, View) -> bool>(
 // Whether the test holds of each client of two servers that have the same number of them.
 fn each<A: Server, B: Server, T: Fn(View, View) -> bool>(first: &A, second: &B, test: T) -> bool
     requires { T.IsAlwaysCallable test }
-    ensures { (told : Seen → Seen → Bool) → Tells (λ a b r. T.post test a b r) told → (A.Server.means (A.Server.state first.now)).count ≡ (B.Server.means (B.Server.state second.now)).count
-        → result ≡ each_of told (A.Server.means (A.Server.state first.now)) (B.Server.means (B.Server.state second.now)) }
+    ensures { (told : Seen → Seen → Bool) → Tells (λ a b r. T.post test a b r) told → (meant A.Server first.now).count ≡ (meant B.Server second.now).count
+        → result ≡ each_of told (meant A.Server first.now) (meant B.Server second.now) }
 {
     (0..first.clients()).all(|client| passes(first, second, &test, client))
 }
 
 // Whether two servers fit, or why not; both are left as they were.
 pub fn fit<A: Server, B: Server>(first: &A, second: &B) -> Result<(), Misfit>
-    ensures { result ≡ fitting (A.Server.means (A.Server.state first.now)) (B.Server.means (B.Server.state second.now)) }
+    ensures { result ≡ fitting (meant A.Server first.now) (meant B.Server second.now) }
 {
     if first.clients() != second.clients() || !each(first, second, same_rate) {
         return Err(Misfit::Differ);

@@ -2,6 +2,7 @@ ghost use Rattle.std.specs.Prelude.{◌≡◌};
 ghost use Rattle.server.specs.Laws.{Unused};
 ghost use Rattle.join.specs.Fit.{fitting, chain_clients};
 ghost use Rattle.join.specs.Joint.{state_of, means_of, begun};
+ghost use Rattle.server.specs.Meant.{meant};
 
 use crate::chain::Chain;
 use crate::fitting::fit;
@@ -28,7 +29,7 @@ impl<A: Server, B: Server> Chain<A, B> {
 // The clients of a chain of two servers: the first's, or none where they do not fit. Why they do not is `fit`'s
 // to tell: a chain of two that do not fit is a server as well.
 fn clients_of<A: Server, B: Server>(first: &A, second: &B) -> u8
-    ensures { result ≡ chain_clients (fitting (A.Server.means (A.Server.state first.now)) (B.Server.means (B.Server.state second.now))) (A.Server.means (A.Server.state first.now)) }
+    ensures { result ≡ chain_clients (fitting (meant A.Server first.now) (meant B.Server second.now)) (meant A.Server first.now) }
 {
     fit(first, second).map_or(0, |()| first.clients())
 }

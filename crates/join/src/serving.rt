@@ -3,6 +3,7 @@ ghost use Rattle.join.specs.Link.{handed};
 ghost use Rattle.join.specs.Joint.{Joint, state_of, means_of, joint, handed_on};
 ghost use Rattle.join.specs.Starts.{starts_in};
 ghost use Rattle.join.specs.Laws.{chain_lawful};
+ghost use Rattle.server.specs.Meant.{meant};
 
 use crate::chain::Chain;
 use server::block::Served;
@@ -79,7 +80,7 @@ impl<A: Server, B: Server> Server for Chain<A, B> {
 // Submits to the second what departed from the first. It grants what fits into the chain, and a server that did
 // not would break its laws, so nothing is lost with its answer.
 fn hand<B: Server>(second: &mut B, came: Result<Served, Refusal>)
-    ensures leaves { B.Server.means (B.Server.state second.new) ≡ handed came (B.Server.means (B.Server.state second.old)) }
+    ensures leaves { meant B.Server second.new ≡ handed came (meant B.Server second.old) }
     ensures exactly { B.Server.named → B.Server.state second.new ≡ handed_on B.Server.machine came (B.Server.state second.old) }
 {
     if let Ok(Served::Departed(block)) = came {

@@ -1,4 +1,5 @@
 ghost use Rattle.std.specs.Prelude.{◌<◌};
+ghost use Rattle.server.specs.Meant.{meant};
 
 use book::calls::{Event, Order};
 use server::block::Served;
@@ -16,7 +17,7 @@ struct Account {
 impl Account {
     // The account of one of the server's clients, which has sent nothing yet.
     fn open<S: Server>(server: &S, client: u8) -> Account
-        requires { client < (S.Server.means (S.Server.state server.now)).count }
+        requires { client < (meant S.Server server.now).count }
     {
         Account {
             terms: server.view(client).unwrap().terms,

@@ -1,12 +1,12 @@
 // What is written of a server: its clients' latencies, and each event.
-ghost use Rattle.std.specs.Prelude.{◌≡◌, ◌+◌, ◌-◌, ◌/◌};
+ghost use Rattle.std.specs.Prelude.{◌≡◌};
 ghost use Rattle.server.specs.Calls.{asked};
 ghost use Rattle.run.specs.Logs.{line_of, latency_line};
+ghost use Rattle.server.specs.Meant.{meant};
 
 use book::calls::Event;
 use logs::{DepartureLine, GrantLine, LatencyLine, Line, RefusalLine};
 use server::block::Served;
-use server::rate::Terms;
 use server::refusal::Refusal;
 use server::server::Server;
 
@@ -36,24 +36,14 @@ pub(crate) fn line_of(slot: u32, event: Event) -> Option<Line>
     }
 }
 
-/// A latency in slots, rounded up; none where there is no rate.
-fn slots_of(terms: Terms) -> u32
-    ensures { result ≡ (terms.latency + (terms.rate.p - 1)) / terms.rate.p }
-{
-    match terms.rate.p {
-        0 => 0,
-        p => terms.latency.div_ceil(u32::from(p)),
-    }
-}
-
 /// The line of a client's latency.
 pub(crate) fn latency_line<S: Server>(server: &S, client: u8) -> Result<Line, Refusal>
-    ensures { result ≡ asked (S.Server.means (S.Server.state server.now)) client (λ x. latency_line client x) }
+    ensures { result ≡ asked (meant S.Server server.now) client (λ x. latency_line client x) }
 {
     let terms = server.view(client)?.terms;
     Ok(Line::Latency(LatencyLine {
         client,
         latency: terms.latency,
-        slots: slots_of(terms),
+        slots: terms.slots(),
     }))
 }

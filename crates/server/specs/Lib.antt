@@ -4,3 +4,4 @@ pub mod Calls
 pub mod Laws
 pub mod Order
 pub mod Machine
+pub mod Meant
