@@ -2,7 +2,7 @@ use server::block::Served;
 use server::rate::Rate;
 use server::refusal::Refusal;
 
-// A block handed to a server.
+/// A block handed to a server.
 #[derive(Clone, Copy, PartialEq, Eq, Debug)]
 pub struct Order {
     pub client: u8,
@@ -10,7 +10,7 @@ pub struct Order {
     pub length: u8,
 }
 
-// What a server can be asked.
+/// What a server can be asked.
 #[derive(Clone, Copy, PartialEq, Eq, Debug)]
 pub enum Question {
     Clients,
@@ -21,7 +21,7 @@ pub enum Question {
     Waiting(u8),
 }
 
-// What a server tells.
+/// What a server tells.
 #[derive(Clone, Copy, PartialEq, Eq, Debug)]
 pub enum Reply {
     Clients(u8),
@@ -32,7 +32,7 @@ pub enum Reply {
     Waiting(Result<u8, Refusal>),
 }
 
-// A call of a server.
+/// A call of a server.
 #[derive(Clone, Copy, PartialEq, Eq, Debug)]
 pub enum Call {
     Submit(Order),
@@ -40,7 +40,7 @@ pub enum Call {
     Ask(Question),
 }
 
-// A call of a server with its answer.
+/// A call of a server with its answer.
 #[derive(Clone, Copy, PartialEq, Eq, Debug)]
 pub enum Event {
     Submit(Order, Result<u64, Refusal>),

@@ -25,7 +25,7 @@ fn ask<S: Server>(server: &S, question: Question) -> Reply
     }
 }
 
-// Makes one call.
+/// Makes one call. A call is a value, since what is promised is promised of lists of calls.
 pub fn make<S: Server>(server: &mut S, call: Call) -> Event
     ensures of { call_of result ≡ call }
     ensures takes { Takes (meant S.Server server.old) result (meant S.Server server.new) }
@@ -41,8 +41,8 @@ pub fn make<S: Server>(server: &mut S, call: Call) -> Event
     }
 }
 
-// Makes calls of a server, as far as there is room for the events, and tells how many. The room is the caller's,
-// of any length, since nothing is allocated here.
+/// Makes calls of a server, as far as there is room for the events, and tells how many. The room is the caller's,
+/// of any length, since nothing is allocated here.
 pub fn drive<S: Server>(server: &mut S, calls: &[Call], events: &mut [Event]) -> usize
     ensures count { result ≡ made calls.now events.old }
     ensures of { map call_of (take result events.new) ≡ take result calls.now }
@@ -59,8 +59,8 @@ pub fn drive<S: Server>(server: &mut S, calls: &[Call], events: &mut [Event]) ->
     count
 }
 
-// Joins two servers and makes calls of the chain, as far as there is room for the events. Whatever the
-// two servers are and whatever the calls, the book of these events shows what is promised.
+/// Joins two servers and makes calls of the chain, as far as there is room for the events. Whatever the
+/// two servers are and whatever the calls, the book of these events shows what is promised.
 pub fn join_and_drive<A: Server, B: Server>(
     first: A,
     second: B,

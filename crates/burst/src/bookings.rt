@@ -11,7 +11,7 @@ use ring::booking::RingBooking;
 use ring::ring_server::RingServer;
 use std::io;
 
-// The owners of a frame's slots.
+// The owners of a frame's slots. Their values are casts, since a constant's cannot come from a call of `from`.
 const HOUSEKEEPING: Option<u8> = Some(Source::Housekeeping as u8);
 
 const RANGING: Option<u8> = Some(Source::Ranging as u8);
@@ -47,8 +47,8 @@ fn tell(rt: &impl Print, step: &str, answer: Result<(), BookingRefusal>) -> io::
     }
 }
 
-// A slot frame, with each step of its booking told. The three bookings are types of their own, and each
-// carries a rate by a share of its own kind, so each is booked by a function of its own.
+// A slot frame, with each step of its booking told. The three hops are booked by functions of their own, since
+// each takes a share of its own kind and turns down what the others do not.
 pub fn frame_hop(rt: &impl Print) -> io::Result<FrameServer> {
     rt.println("\nSLOT FRAME: each slot of a round of eight belongs to one source or to nobody")?;
     let mut booking = FrameBooking::new();

@@ -2,7 +2,7 @@ ghost use Rattle.std.specs.Prelude.{◌≡◌};
 ghost use Rattle.clients.specs.Bookings.{number_of};
 ghost use Rattle.clients.specs.declared.booking.BookingRefusal.TheVariants.{Over};
 
-// Why a booking turns a reservation down, each cause with its number.
+/// Why a booking turns a reservation down, each cause with its number.
 #[derive(Clone, Copy, PartialEq, Eq, Debug)]
 pub enum BookingRefusal {
     // the capacity is set after a client was reserved
@@ -18,7 +18,8 @@ pub enum BookingRefusal {
 }
 
 impl BookingRefusal {
-    // Written for each enum of refusals, since a type parameter cannot be cast.
+    /// A method and no `From`, since its name says which number; written for each enum, since a type parameter
+    /// cannot be cast.
     pub fn number(self) -> u8
         ensures { result ≡ number_of self }
     {
@@ -26,7 +27,7 @@ impl BookingRefusal {
     }
 }
 
-// A table of clients that has no place for one more, or not for its terms.
+/// Why a table of clients turns a client away: it has no place for one more, or not for its terms.
 #[derive(Clone, Copy, PartialEq, Eq, Debug)]
 pub struct NotAdmitted;
 

@@ -25,8 +25,8 @@ impl Clients {
         }
     }
 
-    // A client of these terms takes the next place; refused, and nothing changed, where there is none
-    // or the terms are outside their ranges.
+    /// A client of these terms takes the next place; refused, and nothing changed, where there is none
+    /// or the terms are outside their ranges.
     pub fn admit(&mut self, terms: Terms) -> Result<(), NotAdmitted>
         ensures answers { result ≡ admission (meaning self.old) terms }
         ensures leaves { meaning self.new ≡ admitted (meaning self.old) terms }
@@ -52,28 +52,28 @@ impl Clients {
         self.slots
     }
 
-    // All that is told of a client.
+    /// All that is told of a client.
     pub fn view(&self, client: u8) -> Result<View, Refusal>
         ensures { result ≡ asked (meaning self.now) client view_of }
     {
         Ok(self.lane(client)?.view())
     }
 
-    // Whether the client has a waiting block.
+    /// Whether the client has a waiting block.
     pub fn waits(&self, client: u8) -> bool
         ensures { result ≡ waits_in (meaning self.now) client }
     {
         self.front(client).is_some()
     }
 
-    // The client's oldest waiting block.
+    /// The client's oldest waiting block.
     pub fn front(&self, client: u8) -> Option<Block>
         ensures { result ≡ front_at (meaning self.now) client }
     {
         self.lane(client).ok()?.queue.first().copied()
     }
 
-    // A block of the client: its due, or a refusal that leaves the table as it was.
+    /// A block of the client: its due, or a refusal that leaves the table as it was.
     pub fn submit(&mut self, client: u8, label: u32, units: u8) -> Result<u64, Refusal>
         ensures answers { result ≡ granting (meaning self.old) client units }
         ensures leaves { meaning self.new ≡ submitted (meaning self.old) client label units }
@@ -86,7 +86,7 @@ impl Clients {
         Ok(lane.enter(label, units, self.slots))
     }
 
-    // One slot, which serves the chosen client if it has a waiting block.
+    /// One slot, which serves the chosen client if it has a waiting block.
     pub fn slot(&mut self, who: Option<u8>) -> Result<Served, Refusal>
         ensures answers { result ≡ slot_says (meaning self.old) who }
         ensures leaves { meaning self.new ≡ slot_leaves (meaning self.old) who }

@@ -7,7 +7,7 @@ use server::block::{Block, Departure, Served};
 use server::rate::Terms;
 use server::view::View;
 
-// One client: what it reserved, its clock in ticks, and its waiting blocks, oldest first.
+/// One client: what it reserved, its clock in ticks, and its waiting blocks, oldest first.
 #[derive(Default, Drop)]
 pub struct Lane {
     pub(crate) terms: Terms,

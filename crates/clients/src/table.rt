@@ -5,7 +5,8 @@ ghost use Rattle.clients.specs.View.{viewed};
 use crate::lane::Lane;
 use arrayvec::ArrayVec;
 
-// The clients of a server, at most eight, and its slot counter.
+/// The clients of a server, at most eight, and its slot counter. Contracts speak of it by `meaning` and not by a
+/// model: a model's values need a code, and a meaning holds a function of the client's number.
 #[derive(Drop)]
 pub struct Clients {
     pub(crate) slots: u32,

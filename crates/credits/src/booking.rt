@@ -3,9 +3,9 @@ ghost use Rattle.clients.specs.Meant.{meaning};
 
 use crate::credit_server::CreditServer;
 
-// The server that opening gives: a denominator and the clients reserved with it so far, none of them used. The
-// three schedulers' bookings share no trait: each takes a share of its own kind, so that nothing could be
-// written for all three.
+/// A server that is not in service yet: a denominator, and the clients reserved with it so far. The three
+/// schedulers' bookings share no trait: each is booked by a share of its own kind, so that no code would be generic
+/// over them.
 #[derive(Drop)]
 pub struct CreditBooking {
     pub(crate) server: CreditServer,

@@ -5,7 +5,8 @@ ghost use Rattle.credits.specs.Shares.{eligible as eligible_in, by_place, byte_o
 use crate::credit_server::CreditServer;
 
 impl CreditServer {
-    // The client that the next slot serves: the lowest bit of the byte of the eligible clients.
+    // The client that the next slot serves: the lowest bit of the byte of the eligible clients, which the rules
+    // speak of and the code keeps.
     pub(crate) fn served(&self) -> Option<u8>
         ensures { result ≡ served_of (meaning self.now.clients) self.now.denominator self.now.shares.items }
     {

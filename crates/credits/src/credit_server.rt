@@ -7,10 +7,10 @@ use crate::shares::Share;
 use arrayvec::ArrayVec;
 use clients::table::Clients;
 
-// Clients in service, and a share for each of them, highest priority first: their steps together are
-// within the denominator, and the credits of the highest k of them are within their caps, for each k. Shares
-// stand beside the clients and not in their lanes: the table of clients is three schedulers', and a slot makes
-// all shares anew, from which a proof over lanes would have to tell terms, clocks and blocks apart.
+/// Clients in service, and a share for each of them, highest priority first: their steps together are
+/// within the denominator, and the credits of the highest k of them are within their caps, for each k. Shares
+/// stand beside the clients and not in their lanes: the table of clients is three schedulers', and a slot makes
+/// all shares anew, from which a proof over lanes would have to tell terms, clocks and blocks apart.
 #[derive(Drop)]
 pub struct CreditServer {
     pub(crate) clients: Clients,

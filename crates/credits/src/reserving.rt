@@ -13,7 +13,7 @@ use clients::ticks::{rate_in_range, terms_of};
 use server::rate::{Rate, Terms};
 
 impl CreditBooking {
-    // Denominator 1, and no clients.
+    /// Denominator 1, and no clients.
     pub fn new() -> CreditBooking
         ensures { booked_in result ≡ fresh }
     {
@@ -26,7 +26,7 @@ impl CreditBooking {
         }
     }
 
-    // Sets the denominator, before any client is reserved.
+    /// Sets the denominator, before any client is reserved.
     pub fn set_denominator(&mut self, denominator: u32) -> Result<(), BookingRefusal>
         ensures answers { result ≡ denominator_says (booked_in self.old) denominator }
         ensures leaves { booked_in self.new ≡ denominator_set (booked_in self.old) denominator }
@@ -42,7 +42,7 @@ impl CreditBooking {
         Ok(())
     }
 
-    // Reserves the rate for the next client, with a step that must carry it and a cap on its credit.
+    /// Reserves the rate for the next client, with a step that must carry it and a cap on its credit.
     pub fn reserve(&mut self, rate: Rate, step: u32, cap: u32) -> Result<(), BookingRefusal>
         ensures answers { result ≡ reserve_says (booked_in self.old) rate step «cap» }
         ensures leaves { booked_in self.new ≡ reserved (booked_in self.old) rate step «cap» }
@@ -79,7 +79,7 @@ impl CreditBooking {
         Ok(terms_of(rate, self.server.caps().div_ceil(rest)))
     }
 
-    // Opens the booking for service, and uses it up.
+    /// Opens the booking for service, and uses it up.
     pub fn open(self) -> CreditServer
         ensures state { state_of result ≡ booked_in self }
         ensures unused { ∥ Unused (state_of result).clients ∥₁ }

@@ -2,9 +2,9 @@ ghost use Rattle.std.specs.Prelude.{◌≡◌, ◌+◌, ◌^◌, ◌<◌, ◌≤
 ghost use Rattle.credits.specs.Shares.{affords as pays, share_after};
 ghost use Rattle.credits.specs.declared.shares.Role.TheVariants.{Served};
 
-// What a client reserved and what it has saved, in parts of a slot of which the denominator makes one:
-// its step in a slot, its cap while it is idle, and its credit. That credit and step fit together is asked by the
-// two calls and is no field of it: all clients' caps bound a credit, so that a share alone could not keep it.
+/// What a client reserved and what it has saved, in parts of a slot of which the denominator makes one:
+/// its step in a slot, its cap while it is idle, and its credit. That credit and step fit together is asked by the
+/// two calls and is no field of it: all clients' caps bound a credit, so that a share alone could not keep it.
 #[derive(Clone, Copy, PartialEq, Eq, Default, Debug)]
 pub struct Share {
     pub(crate) step: u32,

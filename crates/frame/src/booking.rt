@@ -8,8 +8,8 @@ use clients::table::Clients;
 use clients::ticks::{rate_in_range, terms_of};
 use server::rate::{Rate, Terms};
 
-// A server that is not in service yet: a frame, and the clients reserved in it so far. The three schedulers'
-// bookings share no trait: each takes a share of its own kind, so that nothing could be written for all three.
+/// A server that is not in service yet: a frame, and the clients reserved in it so far. The three schedulers'
+/// bookings share no trait: each is booked by a share of its own kind, so that no code would be generic over them.
 #[derive(Drop)]
 pub struct FrameBooking {
     server: FrameServer,
@@ -21,7 +21,7 @@ impl FrameBooking {
     ghost use Rattle.clients.specs.Serving.{terms_ok};
     ghost use Rattle.frame.specs.States.{booked_in, state_of, fresh, frame_says, frame_set, terms_say, reserve_says, reserved};
 
-    // A frame of one slot that nobody owns, and no clients.
+    /// A frame of one slot that nobody owns, and no clients.
     pub fn new() -> FrameBooking
         ensures { booked_in result ≡ fresh }
     {
@@ -33,7 +33,7 @@ impl FrameBooking {
         }
     }
 
-    // Sets the owners of the frame's slots, before any client is reserved.
+    /// Sets the owners of the frame's slots, before any client is reserved.
     pub fn set_frame(&mut self, owners: &[Option<u8>]) -> Result<(), BookingRefusal>
         ensures answers { result ≡ frame_says (booked_in self.old) owners.now }
         ensures leaves { booked_in self.new ≡ frame_set (booked_in self.old) owners.now }
@@ -46,7 +46,7 @@ impl FrameBooking {
         Ok(())
     }
 
-    // Reserves the rate for the next client, whose slots must carry it.
+    /// Reserves the rate for the next client, whose slots must carry it.
     pub fn reserve(&mut self, rate: Rate) -> Result<(), BookingRefusal>
         ensures answers { result ≡ reserve_says (booked_in self.old) rate }
         ensures leaves { booked_in self.new ≡ reserved (booked_in self.old) rate }
@@ -73,7 +73,7 @@ impl FrameBooking {
         Ok(terms_of(rate, (slots - owned) as u32))
     }
 
-    // Opens the booking for service, and uses it up.
+    /// Opens the booking for service, and uses it up.
     pub fn open(self) -> FrameServer
         ensures state { state_of result ≡ booked_in self }
         ensures unused { ∥ Unused (state_of result).clients ∥₁ }

@@ -5,7 +5,7 @@ ghost use Rattle.frame.specs.Paced.{Paced};
 use crate::owners::Frame;
 use clients::table::Clients;
 
-// A frame in service. `paced` is truncated since `kept` of the clients is, and both are read together.
+/// A frame in service: its clients, and the owners of its slots, who are on time.
 #[derive(Drop)]
 pub struct FrameServer {
     pub(crate) clients: Clients,

@@ -4,7 +4,7 @@ ghost use Rattle.std.specs.List.{list_all};
 use arrayvec::ArrayVec;
 use clients::booking::BookingRefusal;
 
-// The owners of a frame's slots, in order: at least one, each a client or none.
+/// The owners of a frame's slots, in order: at least one, each a client or none.
 #[derive(Drop)]
 pub struct Frame {
     owners: ArrayVec<Option<u8>, 256>,

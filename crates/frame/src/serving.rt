@@ -26,8 +26,9 @@ impl Server for FrameServer {
         let m = meaning x.clients in
         ∥∥₁_elim x.clients.kept (lawful_prop m) (λ k. ∥∥₁_elim x.paced (lawful_prop m) (λ h. paced_lawful m (owners_in x.frame) x.frame.some k h)) };
 
-    // The calls but `slot` go to the table, each from here, where the invariants of this type are kept: a
-    // shared body would need a second trait with these contracts.
+    // The calls but `slot` go to the table, each from here, where the invariants of this type are kept. A body
+    // shared by the schedulers would need a second trait with the contracts of `Server` over again, and more text
+    // than these lines.
     fn clients(&self) -> u8 {
         self.clients.count()
     }

@@ -5,8 +5,8 @@ ghost use Rattle.join.specs.Standing.{stands_prop};
 use crate::starts::Starts;
 use server::server::Server;
 
-// Two servers, one behind the other, with the starts that the second's blocks had in the first.
-// Two that do not fit make a chain of no clients.
+/// Two servers, one behind the other, with the starts that the second's blocks had in the first.
+/// Two that do not fit make a chain of no clients.
 #[derive(Drop)]
 pub struct Chain<A: Server, B: Server> {
     pub(crate) first: A,

@@ -1,7 +1,7 @@
 ghost use Rattle.std.specs.Prelude.{◌≡◌};
 ghost use Rattle.join.specs.Misfits.{number_of};
 
-// Why two servers do not fit, each cause with its number.
+/// Why two servers do not fit, each cause with its number.
 #[derive(Clone, Copy, PartialEq, Eq, Debug)]
 pub enum Misfit {
     // the number of clients or a rate differs
@@ -13,7 +13,8 @@ pub enum Misfit {
 }
 
 impl Misfit {
-    // Written for each enum of refusals, since a type parameter cannot be cast.
+    /// A method and no `From`, since its name says which number; written for each enum, since a type parameter
+    /// cannot be cast.
     pub fn number(self) -> u8
         ensures { result ≡ number_of self }
     {

@@ -51,7 +51,7 @@ fn each<A: Server, B: Server, T: Fn(View, View) -> bool>(first: &A, second: &B, 
     (0..first.clients()).all(|client| passes(first, second, &test, client))
 }
 
-// Whether two servers fit, or why not; both are left as they were.
+/// Whether two servers fit, or why not; both are left as they were.
 pub fn fit<A: Server, B: Server>(first: &A, second: &B) -> Result<(), Misfit>
     ensures { result ≡ fitting (meant A.Server first.now) (meant B.Server second.now) }
 {

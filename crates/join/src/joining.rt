@@ -10,7 +10,7 @@ use crate::starts::Starts;
 use server::server::Server;
 
 impl<A: Server, B: Server> Chain<A, B> {
-    // Joins two servers and uses them up. Two that do not fit make a chain of no clients at slot 0.
+    /// Joins two servers and uses them up. Two that do not fit make a chain of no clients at slot 0.
     pub fn join(first: A, second: B) -> Chain<A, B>
         ensures state { state_of A.Server B.Server result ≡ begun A.Server.means B.Server.means (A.Server.state first) (B.Server.state second) }
         ensures unused { Unused (means_of A.Server.means B.Server.means (state_of A.Server B.Server result)) }

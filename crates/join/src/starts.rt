@@ -42,7 +42,8 @@ impl Starts {
         }
     }
 
-    // The second has answered: what the chain answers, a departed block with its start in the first.
+    // The second has answered: what the chain answers, a departed block with its start in the first. A start is
+    // kept of each block of the second; what is said of a block without one is never told.
     pub(crate) fn tell(&mut self, answer: Result<Served, Refusal>) -> Served
         ensures answers { result ≡ told answer (starts_in self.old) }
         ensures leaves { starts_in self.new ≡ staying answer (starts_in self.old) }

@@ -82,8 +82,7 @@ impl Ledger {
         };
         let terms = account.terms;
         let start = terms.rate.start_at(account.clock, self.slots);
-        let ticks = u64::from(terms.rate.q).saturating_mul(u64::from(order.length));
-        account.clock = start.saturating_add(ticks);
+        account.clock = start.saturating_add(terms.rate.ticks(order.length));
         self.entries.push(Entry {
             order,
             terms,

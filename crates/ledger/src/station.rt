@@ -22,8 +22,7 @@ const SCIENCE_RATE: Rate = Rate { p: 2, q: 5 };
 // The owners of a frame's four slots: two of science, one of telemetry, one of nobody.
 const OWNERS: [Option<u8>; 4] = [Some(SCIENCE), Some(TELEMETRY), Some(SCIENCE), None];
 
-// The three bookings are types of their own, and each carries a rate by a share of its own kind, so each is
-// booked by a function of its own.
+// The three hops are booked by functions of their own, since each takes a share of its own kind.
 pub fn frame_hop() -> Result<FrameServer, Unbooked> {
     let mut booking = FrameBooking::new();
     booking.set_frame(&OWNERS)?;

@@ -4,8 +4,8 @@ ghost use Rattle.ring.specs.Shares.{count_in, quantum_in, Carried};
 
 use crate::shares::Shares;
 
-// A ring total and the clients reserved in it so far. The three schedulers' bookings share no trait: each takes
-// a share of its own kind, so that nothing could be written for all three.
+/// A ring total and the clients reserved in it so far. The three schedulers' bookings share no trait: each is
+/// booked by a share of its own kind, so that no code would be generic over them.
 #[derive(Drop)]
 pub struct RingBooking {
     pub(crate) shares: Shares,

@@ -63,7 +63,7 @@ impl Shares {
 }
 
 impl RingBooking {
-    // A ring total of 16, and no clients.
+    /// A ring total of 16, and no clients.
     pub fn new() -> RingBooking
         ensures { booked_in result ≡ fresh }
     {
@@ -75,7 +75,7 @@ impl RingBooking {
         }
     }
 
-    // Sets the ring total, before any client is reserved.
+    /// Sets the ring total, before any client is reserved.
     pub fn set_total(&mut self, total: u32) -> Result<(), BookingRefusal>
         ensures answers { result ≡ total_says (booked_in self.old) total }
         ensures leaves { booked_in self.new ≡ total_set (booked_in self.old) total }
@@ -90,7 +90,7 @@ impl RingBooking {
         Ok(())
     }
 
-    // Reserves the rate and the quantum for the next client.
+    /// Reserves the rate and the quantum for the next client.
     pub fn reserve(&mut self, rate: Rate, quantum: u32) -> Result<(), BookingRefusal>
         ensures answers { result ≡ reserve_says (booked_in self.old) rate quantum }
         ensures leaves { booked_in self.new ≡ reserved (booked_in self.old) rate quantum }
@@ -114,7 +114,7 @@ impl RingBooking {
             .map_err(|_full| BookingRefusal::Over)
     }
 
-    // Opens the booking for service, and uses it up.
+    /// Opens the booking for service, and uses it up.
     pub fn open(self) -> RingServer
         ensures state { state_of result ≡ opened_from (booked_in self) }
         ensures unused { ∥ Unused (state_of result).clients ∥₁ }

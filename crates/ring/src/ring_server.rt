@@ -7,9 +7,9 @@ ghost use Rattle.ring.specs.Search.{Sound};
 use crate::turns::Ring;
 use clients::table::Clients;
 
-// A ring in service: each client of the table has its place in the ring. Places stand beside the clients and
-// not in their lanes: the table of clients is three schedulers', each with something else beside a client, and
-// a type parameter for it would stand in each contract and lemma of the table.
+/// A ring in service: each client of the table has its place in the ring. Places stand beside the clients and
+/// not in their lanes: the table of clients is three schedulers', each with something else beside a client, and
+/// a type parameter for it would stand in each contract and lemma of the table.
 #[derive(Drop)]
 pub struct RingServer {
     pub(crate) clients: Clients,

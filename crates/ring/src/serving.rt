@@ -43,8 +43,9 @@ impl Server for RingServer {
         ∥∥₁_elim x.clients.kept (lawful_prop m) (λ k.
         ∥∥₁_elim x.sound (lawful_prop m) (λ h. paced_lawful m x.ring (gone_round m.count (client_of x.ring.turn)) x.within h.paced k)) };
 
-    // The calls but `slot` go to the table, each from here, where the invariants of this type are kept: a
-    // shared body would need a second trait with these contracts.
+    // The calls but `slot` go to the table, each from here, where the invariants of this type are kept. A body
+    // shared by the schedulers would need a second trait with the contracts of `Server` over again, and more text
+    // than these lines.
     fn clients(&self) -> u8 {
         self.clients.count()
     }

@@ -1,20 +1,20 @@
 use arrayvec::ArrayVec;
 
-// A client's place in the ring: the units that a turn of it adds, and those left of its turns so far.
+/// A client's place in the ring: the units that a turn of it adds, and those left of its turns so far.
 #[derive(Clone, Copy, Default)]
 pub struct Place {
     pub(crate) quantum: u32,
     pub(crate) deficit: u32,
 }
 
-// Whose turn it is, or was last. An open turn goes on; a closed one is over.
+/// Whose turn it is, or was last. An open turn goes on; a closed one is over.
 #[derive(Clone, Copy)]
 pub enum Turn {
     Open(u8),
     Closed(u8),
 }
 
-// The ring total, the clients' places in their order, and the turn.
+/// The ring total, the clients' places in their order, and the turn.
 #[derive(Drop)]
 pub struct Ring {
     pub(crate) total: u32,
@@ -22,7 +22,7 @@ pub struct Ring {
     pub(crate) turn: Turn,
 }
 
-// What is left of a turn after a unit went: the client's deficit, and the turn.
+/// What is left of a turn after a unit went: the client's deficit, and the turn.
 #[derive(Clone, Copy)]
 pub struct Rest {
     pub(crate) deficit: u32,

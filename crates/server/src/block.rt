@@ -1,4 +1,4 @@
-// A waiting block: its label code, its length in units, the units left of it, and its start in ticks.
+/// A waiting block: its label code, its length in units, the units left of it, and its start in ticks.
 #[derive(Clone, Copy, PartialEq, Eq, Default, Debug)]
 pub struct Block {
     pub label: u32,
@@ -7,7 +7,7 @@ pub struct Block {
     pub start: u64,
 }
 
-// A block whose last unit went, and the client that it belonged to.
+/// A block whose last unit went, and the client that it belonged to.
 #[derive(Clone, Copy, PartialEq, Eq, Debug)]
 pub struct Departure {
     pub client: u8,
@@ -16,7 +16,7 @@ pub struct Departure {
     pub start: u64,
 }
 
-// What a slot answers: nothing went, or a unit of this client, or the last unit of this block.
+/// What a slot answers: nothing went, or a unit of this client, or the last unit of this block.
 #[derive(Clone, Copy, PartialEq, Eq, Debug)]
 pub enum Served {
     Nothing,

@@ -1,7 +1,7 @@
 ghost use Rattle.std.specs.Prelude.{◌≡◌, ◌*◌, max};
 ghost use Rattle.server.specs.Calls.{due_within, slots_of};
 
-// A client sends p units in q slots; a tick of that client is the p-th part of a slot.
+/// A client sends p units in q slots; a tick of that client is the p-th part of a slot.
 #[derive(Clone, Copy, PartialEq, Eq, Default, Debug)]
 pub struct Rate {
     pub p: u16,
@@ -9,14 +9,14 @@ pub struct Rate {
 }
 
 impl Rate {
-    // The start of a block that comes at this slot: the clock, or the present tick if that is later.
+    /// The start of a block that comes at this slot: the clock, or the present tick if that is later.
     pub fn start_at(self, clock: u64, slot: u32) -> u64
         ensures { result ≡ max (self.p * slot) clock }
     {
         (u64::from(self.p) * u64::from(slot)).max(clock)
     }
 
-    // The ticks that a block of this length takes.
+    /// The ticks that a block of this length takes.
     pub fn ticks(self, length: u8) -> u64
         ensures { result ≡ self.q * length }
     {
@@ -24,7 +24,7 @@ impl Rate {
     }
 }
 
-// What a client has reserved and keeps while its server runs: its rate, and its latency in ticks.
+/// What a client has reserved and keeps while its server runs: its rate, and its latency in ticks.
 #[derive(Clone, Copy, PartialEq, Eq, Default, Debug)]
 pub struct Terms {
     pub rate: Rate,
@@ -32,7 +32,7 @@ pub struct Terms {
 }
 
 impl Terms {
-    // The slot by which a block of this start has left, or 0 where there is no rate.
+    /// The slot by which a block of this start has left, or 0 where there is no rate. No client is without one.
     pub fn due(self, start: u64) -> u64
         ensures { result ≡ due_within self start }
     {
@@ -40,7 +40,7 @@ impl Terms {
         end.checked_div(u64::from(self.rate.p)).unwrap_or(0)
     }
 
-    // The latency in slots, rounded up, or 0 where there is no rate.
+    /// The latency in slots, rounded up, or 0 where there is no rate. No client is without one.
     pub fn slots(self) -> u32
         ensures { result ≡ slots_of self }
     {

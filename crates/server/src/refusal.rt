@@ -1,7 +1,7 @@
 ghost use Rattle.std.specs.Prelude.{◌≡◌};
 ghost use Rattle.server.specs.Refusals.{number_of};
 
-// Why a server turns a call down, each cause with its number.
+/// Why a server turns a call down, each cause with its number.
 #[derive(Clone, Copy, PartialEq, Eq, Debug)]
 pub enum Refusal {
     // the client is not below the number of clients
@@ -15,7 +15,8 @@ pub enum Refusal {
 }
 
 impl Refusal {
-    // Written for each enum of refusals, since a type parameter cannot be cast.
+    /// A method and no `From`, since its name says which number; written for each enum, since a type parameter
+    /// cannot be cast.
     pub fn number(self) -> u8
         ensures { result ≡ number_of self }
     {

@@ -28,7 +28,7 @@ pub trait Server {
     fn now(&self) -> u32
         ensures { result ≡ (means (state self.now)).now };
 
-    // All that is told of a client. The four questions after it are told from it.
+    /// All that is told of a client. The four questions after it are told from it.
     fn view(&self, client: u8) -> Result<View, Refusal>
         ensures { result ≡ asked (means (state self.now)) client view_of };
 
@@ -56,14 +56,14 @@ pub trait Server {
         Ok(self.view(client)?.waiting)
     }
 
-    // A block of the client: its due, or a refusal that leaves the server as it was. The rule names the
-    // three parts of a submission; a list of calls holds them as one value.
+    /// A block of the client: its due, or a refusal that leaves the server as it was. Three parameters and no
+    /// struct, since every server takes them apart at once; a list of calls has a value that holds them.
     fn submit(&mut self, client: u8, label: u32, length: u8) -> Result<u64, Refusal>
         ensures answers { result ≡ granting (means (state self.old)) client length }
         ensures leaves { means (state self.new) ≡ submitted (means (state self.old)) client label length }
         ensures exactly { named → state self.new ≡ machine.enter (state self.old) client label length };
 
-    // One slot: what went, or a refusal at the counter's end that leaves the server as it was.
+    /// One slot: what went, or a refusal at the counter's end that leaves the server as it was.
     fn slot(&mut self) -> Result<Served, Refusal>
         ensures serves { Slotted (means (state self.old)) result (means (state self.new)) }
         ensures exactly { named → (result ≡ machine.says (state self.old)) × (state self.new ≡ machine.next (state self.old)) };

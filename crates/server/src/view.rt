@@ -4,7 +4,7 @@ ghost use Rattle.server.specs.Calls.{accepting};
 use crate::rate::Terms;
 use crate::refusal::Refusal;
 
-// What a server tells of a client: its terms, its clock in ticks, and how many of its blocks wait.
+/// What a server tells of a client: its terms, its clock in ticks, and how many of its blocks wait.
 #[derive(Clone, Copy, PartialEq, Eq, Default, Debug)]
 pub struct View {
     pub terms: Terms,
@@ -13,7 +13,7 @@ pub struct View {
 }
 
 impl View {
-    // Whether a block of this length may come in, or the first cause against it.
+    /// Whether a block of this length may come in, or the first cause against it.
     pub fn accept(self, length: u8) -> Result<(), Refusal>
         ensures { result ≡ accepting self length }
     {

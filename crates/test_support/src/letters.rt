@@ -4,7 +4,7 @@ ghost use Rattle.test_support.specs.Letters.{letter_of};
 use server::block::Served;
 use server::refusal::Refusal;
 
-// The letter of a slot.
+/// The letter of a slot.
 pub fn letter(answer: Result<Served, Refusal>) -> u8
     ensures { result ≡ letter_of answer }
 {

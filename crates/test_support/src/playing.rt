@@ -7,7 +7,7 @@ use crate::submission::Submission;
 use server::refusal::Refusal;
 use server::server::Server;
 
-// What a server did otherwise than it was expected to, by the slot.
+/// What a server did otherwise than it was expected to, by the slot.
 #[derive(Clone, Copy, PartialEq, Eq, Debug)]
 pub enum Mismatch {
     // It told another letter.
@@ -46,8 +46,8 @@ fn submit<S: Server>(server: &mut S, row: &Submission) -> Result<(), Mismatch>
     Ok(())
 }
 
-// Hands a server the blocks of a table that come in its present slot. After a mismatch the rows above it are
-// entered, and that row too if it was granted.
+/// Hands a server the blocks of a table that come in its present slot. After a mismatch the rows above it are
+/// entered, and that row too if it was granted.
 pub fn submit_all<S: Server>(server: &mut S, submissions: &[Submission]) -> Result<(), Mismatch>
     ensures { OnOk result (S.Server.named → SubmitsAll S.Server.means S.Server.machine submissions.now (S.Server.state server.old) (S.Server.state server.new)) }
 {
@@ -78,8 +78,8 @@ fn serve_slot<S: Server>(server: &mut S, expected: u8) -> Result<(), Mismatch>
     Ok(())
 }
 
-// Serves a slot for each letter of a run, with the submissions of a table before each slot. After a
-// mismatch the server is where it was found out.
+/// Serves a slot for each letter of a run, with the submissions of a table before each slot. After a
+/// mismatch the server is where it was found out.
 pub fn play<S: Server>(
     server: &mut S,
     submissions: &[Submission],
@@ -94,7 +94,7 @@ pub fn play<S: Server>(
     Ok(())
 }
 
-// Serves a slot for each letter of a run.
+/// Serves a slot for each letter of a run.
 pub fn serve<S: Server>(server: &mut S, run: &[u8]) -> Result<(), Mismatch>
     ensures { OnOk result (S.Server.named → Plays S.Server.means S.Server.machine [] run.now (S.Server.state server.old) (S.Server.state server.new)) }
 {

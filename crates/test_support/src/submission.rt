@@ -1,4 +1,4 @@
-// A block that a client submits in a slot, and the due that this grants or the number of its refusal.
+/// A block that a client submits in a slot, and the due that this grants or the number of its refusal.
 #[derive(Clone, Copy)]
 pub struct Submission {
     pub slot: u32,
