@@ -1,5 +1,5 @@
 -- The number of a text that is a numeral is what the library's `parse` gives, where that is not over the bound.
-use Rattle.std.proofs.Common.{◌≡◌, ℕ, ◌^◌, ◌<◌, Bool, true, false, cond, ◌&&◌, List, [], ◌∷◌, length, Some, None, Ok, Err, Result, MatchResult, refl, sym, ap, ◌∙◌, nat_le, subst, arith}
+use Rattle.std.proofs.Common.{◌≡◌, ℕ, ◌^◌, ◌<◌, Bool, true, false, cond, ◌&&◌, List, length, Some, None, Ok, Err, Result, MatchResult, refl, sym, ap, ◌∙◌, nat_le, subst, arith}
 use Rattle.decimal.specs.Numbers.{read_on, shaped, kept, number_of}
 use Rattle.decimal.proofs.TwoWays.{own}
 use Rattle.std.proofs.lemmas.Bool.Decides.{nat_tests}
@@ -7,15 +7,9 @@ use Rattle.std.proofs.lemmas.Fmt.{IsAscii-from_digits}
 use Rattle.std.proofs.lemmas.Str.{IsUtf8-from_ascii}
 use Rattle.std.proofs.lemmas.Str.Parse.{parse_digits}
 use Rattle.std.specs.Bool.{then_some}
-use Rattle.std.specs.Char.{is_ascii_digit}
-use Rattle.std.specs.List.{list_all}
 use Rattle.std.specs.Result.{result_ok}
 use Rattle.std.specs.Str.{IsUtf8, all_ascii_digits}
 use Rattle.std.specs.Str.Parse.{ParsesUnsigned}
-
-pub all_digits : (ds : List ℕ) → list_all is_ascii_digit ds ≡ all_ascii_digits ds
-all_digits [] = refl
-all_digits (d ∷ ds) = ap (λ t. is_ascii_digit d && t) (all_digits ds)
 
 pub not_numeral : (most : ℕ) (ds : List ℕ) → (shaped ds && all_ascii_digits ds) ≡ false → None ≡ number_of most ds
 unfolding number_of

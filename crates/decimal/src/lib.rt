@@ -28,8 +28,9 @@ fn is_numeral(text: &[u8]) -> bool
     ensures { result ≡ (shaped text.now && all_ascii_digits text.now) }
 {
     match text {
-        [] | [b'0', _, ..] => false,
-        _ => text.len() <= 10 && is_digits(text),
+        [b'0'] => true,
+        [] | [b'0', ..] => false,
+        [_, rest @ ..] => rest.len() <= 9 && is_digits(text),
     }
 }
 
