@@ -51,11 +51,11 @@ impl LabelKind for Serial {
 
     ghost writes = { serial_writes };
 
-    ghost returned = { λ text code e. serial_returned text code e };
+    ghost returned = { serial_returned };
 
-    ghost reread = { λ code text e. serial_reread code text e };
+    ghost reread = { serial_reread };
 
-    ghost sized = { λ text code e. serial_sized text code e };
+    ghost sized = { serial_sized };
 
     fn read(text: &[u8]) -> Option<u32> {
         decimal::read(text, u32::MAX)
@@ -75,11 +75,11 @@ impl LabelKind for Packet {
 
     ghost writes = { packet_writes };
 
-    ghost returned = { λ text code e. packet_returned text code e };
+    ghost returned = { packet_returned };
 
-    ghost reread = { λ code text e. packet_reread code text e };
+    ghost reread = { packet_reread };
 
-    ghost sized = { λ text code e. packet_sized text code e };
+    ghost sized = { packet_sized };
 
     fn read(text: &[u8]) -> Option<u32> {
         let (apid, count) = marks::split_once(text, b'.')?;
@@ -90,6 +90,7 @@ impl LabelKind for Packet {
         if code > 33554431 {
             return Err(LabelRefusal::NoText);
         }
+        // An identifier of at most 4 digits, the stop and a count of at most 5 fit into the ten bytes.
         let mut text = decimal::write(code / 16384);
         text.push(b'.');
         text.try_extend_from_slice(&decimal::write(code % 16384))
