@@ -19,13 +19,12 @@ pub fn open(line: &[u8], letter: u8, count: usize) -> Result<Fields<'_>, LineFau
     ensures left { IfOk result (λ fields. fields_left fields ≡ other_fields line.now) }
     ensures number { IfOk result (λ fields. field_number fields ≡ 2) }
 {
-    if !begins(line, letter) {
+    let mut fields = Fields::new(line);
+    if fields.text() != [letter].as_slice() {
         return Err(LineFault::Letter);
     }
     if marks::count(line, b',') + 1 != count {
         return Err(LineFault::Fields);
     }
-    let mut fields = Fields::new(line);
-    let _letter = fields.text();
     Ok(fields)
 }
