@@ -40,6 +40,5 @@ pub fn frame(line: &[u8]) -> Result<ArrayVec<Owner, 256>, LineFault>
     ensures { items_in result ≡ frame_of line.now }
 {
     let mut fields = open(line, b'F', 2)?;
-    let fault = fields.fault(FieldCause::Form);
-    Ok(owners(fields.text()).ok_or(fault)?)
+    Ok(fields.read(FieldCause::Form, owners)?)
 }

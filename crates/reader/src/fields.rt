@@ -1,7 +1,8 @@
 // The fields of a line, from the left: texts, numbers and labels.
-ghost use Rattle.reader.specs.Fields.{label_in, number_in, Passed};
+ghost use Rattle.reader.specs.Fields.{label_in, number_in, or_fault, Passed};
 ghost use Rattle.reader.specs.Parts.{field_number, fields_left, first_field};
-ghost use Rattle.std.specs.Prelude.{◌≡◌, ◌≤◌, IfOk};
+ghost use Rattle.std.specs.Fn.{FnOnceReturnsAt};
+ghost use Rattle.std.specs.Prelude.{◌≡◌, ◌≤◌, IfOk, Option};
 
 use faults::{FieldCause, FieldFault};
 use labels::LabelKind;
@@ -25,16 +26,6 @@ impl<'a> Fields<'a> {
         }
     }
 
-    /// The fault of the next field.
-    pub fn fault(&self, cause: FieldCause) -> FieldFault
-        ensures { result ≡ record { field = field_number self.now; cause = cause } }
-    {
-        FieldFault {
-            field: self.next,
-            cause,
-        }
-    }
-
     /// The next field.
     pub fn text(&mut self) -> &'a [u8]
         ensures value { result.now ≡ first_field (fields_left self.old) }
@@ -47,14 +38,31 @@ impl<'a> Fields<'a> {
         text
     }
 
+    /// What `read` makes of the next field, or the field's fault for that cause.
+    pub fn read<T, F: FnOnce(&[u8]) -> Option<T>>(
+        &mut self,
+        cause: FieldCause,
+        read: F,
+    ) -> Result<T, FieldFault>
+        requires { F.IsAlwaysCallable read }
+        ensures value { (answer : Option T) × FnOnceReturnsAt F.FnOnce read (first_field (fields_left self.old)) answer × (result ≡ or_fault (field_number self.old) cause answer) }
+        ensures passed { Passed self.old self.new }
+    {
+        // Made before the text is read, since reading counts on.
+        let fault = FieldFault {
+            field: self.next,
+            cause,
+        };
+        read(self.text()).ok_or(fault)
+    }
+
     /// The next field as a number up to `most`.
     pub fn number(&mut self, most: u32) -> Result<u32, FieldFault>
         ensures value { result ≡ number_in (field_number self.old) most (first_field (fields_left self.old)) }
         ensures bound { IfOk result (λ number. number ≤ most) }
         ensures passed { Passed self.old self.new }
     {
-        let fault = self.fault(FieldCause::Form);
-        decimal::read(self.text(), most).ok_or(fault)
+        self.read(FieldCause::Form, |text| decimal::read(text, most))
     }
 
     /// The next field as a number up to 255.
@@ -62,7 +70,7 @@ impl<'a> Fields<'a> {
         ensures value { result ≡ number_in (field_number self.old) 255 (first_field (fields_left self.old)) }
         ensures passed { Passed self.old self.new }
     {
-        // At most 255, which `number` keeps to.
+        // At most 255, which `number` keeps to: `try_from` would answer an error that cannot come.
         Ok(self.number(255)? as u8)
     }
 
@@ -71,7 +79,7 @@ impl<'a> Fields<'a> {
         ensures value { result ≡ label_in (field_number self.old) L.LabelKind.reads (first_field (fields_left self.old)) }
         ensures passed { Passed self.old self.new }
     {
-        let fault = self.fault(FieldCause::Label);
-        L::read(self.text()).ok_or(fault)
+        // A trait's method does not fit the bound of `read` by its name alone.
+        self.read(FieldCause::Label, |text| L::read(text))
     }
 }
