@@ -9,6 +9,12 @@ use faults::{FieldCause, FieldFault, LineFault};
 use labels::{Kind, LabelKind};
 use reader::{Fields, open};
 
+/// The largest number that a header or a client may ask for. The bookings test the narrower ranges.
+const MOST_ASKED: u32 = 65536;
+
+/// The last slot that a request or the end may name.
+const LAST_SLOT: u32 = 1000000;
+
 /// The kind that the next field names by its letter.
 fn kind(fields: &mut Fields<'_>) -> Result<Kind, FieldFault>
     ensures value { result ≡ kind_in (field_number fields.old) (first_field (fields_left fields.old)) }
@@ -27,8 +33,8 @@ pub fn header(line: &[u8]) -> Result<Header, LineFault>
     let mut fields = open(line, b'H', 4)?;
     Ok(Header {
         kind: kind(&mut fields)?,
-        denominator: fields.number(65536)?,
-        total: fields.number(65536)?,
+        denominator: fields.number(MOST_ASKED)?,
+        total: fields.number(MOST_ASKED)?,
     })
 }
 
@@ -38,11 +44,11 @@ pub fn client(line: &[u8]) -> Result<Client, LineFault>
 {
     let mut fields = open(line, b'B', 6)?;
     Ok(Client {
-        units: fields.number(65536)?,
-        slots: fields.number(65536)?,
-        step: fields.number(65536)?,
-        cap: fields.number(65536)?,
-        quantum: fields.number(65536)?,
+        units: fields.number(MOST_ASKED)?,
+        slots: fields.number(MOST_ASKED)?,
+        step: fields.number(MOST_ASKED)?,
+        cap: fields.number(MOST_ASKED)?,
+        quantum: fields.number(MOST_ASKED)?,
     })
 }
 
@@ -52,7 +58,7 @@ pub fn request<L: LabelKind>(line: &[u8]) -> Result<Request, LineFault>
 {
     let mut fields = open(line, b'R', 5)?;
     Ok(Request {
-        slot: fields.number(1000000)?,
+        slot: fields.number(LAST_SLOT)?,
         client: fields.small()?,
         label: fields.label::<L>()?,
         length: fields.small()?,
@@ -63,5 +69,5 @@ pub fn request<L: LabelKind>(line: &[u8]) -> Result<Request, LineFault>
 pub fn end(line: &[u8]) -> Result<u32, LineFault>
     ensures { result ≡ end_of line.now }
 {
-    Ok(open(line, b'E', 2)?.number(1000000)?)
+    Ok(open(line, b'E', 2)?.number(LAST_SLOT)?)
 }

@@ -28,6 +28,7 @@ fn owners(text: &[u8]) -> Option<ArrayVec<Owner, 256>>
     if text.is_empty() {
         return None;
     }
+    // A loop, since `collect` asks for an allocator, which a vector of fixed room has no use for.
     let mut owners = ArrayVec::new();
     for letter in text {
         owners.try_push(owner(*letter)?).ok()?;
