@@ -1,4 +1,5 @@
 // The lines of a log.
+use server::refusal::Refusal;
 
 /// A client's latency, in ticks and in slots.
 #[derive(Clone, Copy, PartialEq, Eq, Debug)]
@@ -17,13 +18,13 @@ pub struct GrantLine {
     pub due: u64,
 }
 
-/// A block that was refused at a slot, with the refusal's number.
+/// A block that was refused at a slot, and why. Its line tells the refusal by its number.
 #[derive(Clone, Copy, PartialEq, Eq, Debug)]
 pub struct RefusalLine {
     pub slot: u32,
     pub client: u8,
     pub label: u32,
-    pub number: u8,
+    pub refusal: Refusal,
 }
 
 /// A block that departed, and when.
