@@ -1,12 +1,12 @@
 -- What the lines of a trace book at the three hops. Assumes nothing.
-use Rattle.std.specs.Prelude.{ℕ, min, List, Ok, Err, Result}
-use Rattle.server.specs.declared.rate.Rate.{Rate}
+use Rattle.std.specs.Prelude.{ℕ, List, Ok, Err, Result}
 use Rattle.clients.specs.declared.booking.BookingRefusal.{BookingRefusal}
 use Rattle.faults.specs.declared.BookingFault.{BookingFault}
 use Rattle.lines.specs.declared.records.Client.{Client}
 use Rattle.lines.specs.declared.records.Header.{Header}
 use Rattle.lines.specs.Lines.{and_then}
 use Rattle.lines.specs.Owners.{Owner}
+use Rattle.lines.specs.Rates.{line_rate}
 use Rattle.trace.specs.Bookings.{Desk}
 use Rattle.frame.specs.States.{State as Framed, frame_says, frame_set, reserve_says as frame_reserve_says, reserved as frame_reserved, fresh as fresh_frame, booked_in as frame_in}
 use Rattle.credits.specs.States.{State as Credited, denominator_says, denominator_set, reserve_says as credit_reserve_says, reserved as credit_reserved, fresh as fresh_credits, booked_in as credits_in}
@@ -39,10 +39,6 @@ number_of Ring = 3
 abbrev pub at_hop : Hop → Result (Unit {0}) BookingRefusal → State → Result State BookingFault
 at_hop hop (Ok done) after = Ok after
 at_hop hop (Err refusal) after = Err (record { hop = number_of hop; refusal = refusal })
-
--- the rate of a client's line; numbers past 16 bits are out of range as the largest is
-abbrev pub line_rate : Client → Rate
-line_rate c = record { p = min c.units 65535; q = min c.slots 65535 }
 
 -- the header sets the denominator at hop 2, then the ring's total at hop 3
 abbrev pub set_credits : State → Header → Result State BookingFault

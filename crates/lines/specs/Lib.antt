@@ -1,4 +1,5 @@
 pub mod Owners
 pub mod Tables
 pub mod Lines
+pub mod Rates
 pub mod Frames

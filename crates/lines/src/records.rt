@@ -1,5 +1,9 @@
 // What the lines of a trace say.
+ghost use Rattle.lines.specs.Rates.{line_rate};
+ghost use Rattle.std.specs.Prelude.{◌≡◌};
+
 use labels::Kind;
+use server::rate::Rate;
 
 /// The header: the kind of the labels, the denominator of the credits and the total of the ring.
 #[derive(Clone, Copy, PartialEq, Eq, Debug)]
@@ -20,6 +24,18 @@ pub struct Client {
     pub step: u32,
     pub cap: u32,
     pub quantum: u32,
+}
+
+impl From<&Client> for Rate {
+    ghost from_gives = { λ client rate. rate ≡ line_rate client.now };
+
+    /// The rate of a client's line. A number past 16 bits is out of a booking's range, as the largest is.
+    fn from(client: &Client) -> Rate {
+        Rate {
+            p: u16::try_from(client.units).unwrap_or(u16::MAX),
+            q: u16::try_from(client.slots).unwrap_or(u16::MAX),
+        }
+    }
 }
 
 /// A request: a block of `length` units with a label's code, submitted for a client at a slot.
