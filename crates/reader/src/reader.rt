@@ -24,7 +24,7 @@ impl<'a> Reader<'a> {
         self.bytes
     }
 
-    /// The next line, where its end is there. The reading goes on behind that end.
+    /// The next line, and the reading goes on behind its end. A line whose end is missing stays unread.
     pub fn line(&mut self) -> Option<&'a [u8]>
         ensures value { option_copied result ≡ next_line (left self.old) }
         ensures after { left self.new ≡ after_line (left self.old) }

@@ -31,6 +31,7 @@ pub enum Place {
 /// before. That is the last R line's, and slot 0 before the first, since no slot is before it.
 #[derive(Drop)]
 pub struct Reading {
+    // `Trace` has the first four too: one struct for them would stand between a trace's callers and its parts.
     pub(crate) header: Header,
     pub(crate) owners: ArrayVec<Owner, 256>,
     pub(crate) clients: ArrayVec<Client, 8>,

@@ -51,7 +51,8 @@ impl Reading {
     {
         let client = client(line)?;
         bookings.reserve(&client)?;
-        // The first eight are kept; whether there may be more is the bookings' to say.
+        // A station's bookings have refused a ninth client by now. Only bookings that refuse nothing come here
+        // with one, and then the first eight are kept.
         let _ = self.clients.try_push(client);
         self.place = Place::Clients;
         Ok(())
