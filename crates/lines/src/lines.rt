@@ -20,10 +20,11 @@ fn kind(fields: &mut Fields<'_>) -> Result<Kind, FieldFault>
     ensures value { result ≡ kind_in (field_number fields.old) (first_field (fields_left fields.old)) }
     ensures passed { Passed fields.old fields.new }
 {
-    fields.read(FieldCause::Form, |text| match text {
-        [letter] => Kind::try_from(*letter).ok(),
-        _ => None,
-    })
+    let fault = fields.fault(FieldCause::Form);
+    let [letter] = fields.text() else {
+        return Err(fault);
+    };
+    Kind::try_from(*letter).map_err(|_| fault)
 }
 
 /// The line `H,kind,D,F`.

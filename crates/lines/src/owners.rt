@@ -41,5 +41,6 @@ pub fn frame(line: &[u8]) -> Result<ArrayVec<Owner, 256>, LineFault>
     ensures { items_in result ≡ frame_of line.now }
 {
     let mut fields = open(line, b'F', 2)?;
-    Ok(fields.read(FieldCause::Form, owners)?)
+    let fault = fields.fault(FieldCause::Form);
+    Ok(owners(fields.text()).ok_or(fault)?)
 }

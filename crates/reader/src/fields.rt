@@ -26,6 +26,16 @@ impl<'a> Fields<'a> {
         }
     }
 
+    /// The fault of the next field.
+    pub fn fault(&self, cause: FieldCause) -> FieldFault
+        ensures { result ≡ record { field = field_number self.now; cause = cause } }
+    {
+        FieldFault {
+            field: self.next,
+            cause,
+        }
+    }
+
     /// The next field.
     pub fn text(&mut self) -> &'a [u8]
         ensures value { result.now ≡ first_field (fields_left self.old) }
@@ -38,8 +48,9 @@ impl<'a> Fields<'a> {
         text
     }
 
-    /// What `read` makes of the next field, or the field's fault for that cause.
-    pub fn read<T, F: FnOnce(&[u8]) -> Option<T>>(
+    /// What `read` makes of the next field, or the field's fault for that cause. It is this crate's own, since
+    /// what takes a closure requires that it may be called.
+    fn read<T, F: FnOnce(&[u8]) -> Option<T>>(
         &mut self,
         cause: FieldCause,
         read: F,
@@ -48,11 +59,7 @@ impl<'a> Fields<'a> {
         ensures value { (answer : Option T) × FnOnceReturnsAt F.FnOnce read (first_field (fields_left self.old)) answer × (result ≡ or_fault (field_number self.old) cause answer) }
         ensures passed { Passed self.old self.new }
     {
-        // Made before the text is read, since reading counts on.
-        let fault = FieldFault {
-            field: self.next,
-            cause,
-        };
+        let fault = self.fault(cause);
         read(self.text()).ok_or(fault)
     }
 

@@ -73,7 +73,7 @@ fn body<L: LabelKind, B: Bookings>(
     finish(reading, number, reader.rest())
 }
 
-/// The lines behind the header, with labels of the header's kind.
+/// The lines behind the header, with labels of the header's kind, which picks the type that the rest is read with.
 fn body_by_kind<B: Bookings>(
     header: Header,
     bookings: &mut B,
