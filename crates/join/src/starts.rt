@@ -30,7 +30,7 @@ impl Starts {
         if client >= 8 {
             return None;
         }
-        self.rows[client as usize].pop_at(0)
+        self.rows[usize::from(client)].pop_at(0)
     }
 
     // One more start of a client, where there is room.
@@ -38,7 +38,7 @@ impl Starts {
         ensures { starts_in self.new ≡ put_in client start (starts_in self.old) }
     {
         if client < 8 {
-            let _ = self.rows[client as usize].try_push(start);
+            let _ = self.rows[usize::from(client)].try_push(start);
         }
     }
 

@@ -27,6 +27,7 @@ impl From<Source> for u8 {
     }
 }
 
+// A number that no source has is a stranger's, so that whatever a server tells can be printed.
 impl From<u8> for Source {
     ghost use Rattle.std.specs.Prelude.{◌≡◌};
     ghost use Rattle.ledger.specs.Sources.{source_of};

@@ -1,4 +1,5 @@
-// The lines of a log.
+// The lines of a log. Each has its own fields in the order in which they are written, so no struct holds the three
+// that most of them share.
 use server::refusal::Refusal;
 
 /// A client's latency, in ticks and in slots.

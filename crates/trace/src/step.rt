@@ -26,7 +26,8 @@ impl Reading {
         }
     }
 
-    /// The frame's line, which a client's line must follow.
+    /// The frame's line, which a client's line must follow. The bookings are handed to each call: a reading that
+    /// held them would borrow them as long, and what it leaves would have to be said of both.
     pub(crate) fn frame<B: Bookings>(
         &mut self,
         bookings: &mut B,
