@@ -11,7 +11,7 @@ use crate::calls::{Call, Event, Question, Reply};
 use join::chain::Chain;
 use server::server::Server;
 
-// Asks a server.
+// Asks a server. A question is a value, as a call is.
 fn ask<S: Server>(server: &S, question: Question) -> Reply
     ensures { result ≡ reply (meant S.Server server.now) question }
 {

@@ -33,7 +33,7 @@ const OWNERS: [Option<u8>; 8] = [
 // A frame with an owner that can be no client.
 const BAD_OWNERS: [Option<u8>; 2] = [HOUSEKEEPING, Some(8)];
 
-// Tells how a step of a booking went.
+// Tells how a step of a booking went, in words that repeat its numbers, since they are what is printed.
 fn tell(rt: &impl Print, step: &str, answer: Result<(), BookingRefusal>) -> io::Result<()> {
     match answer {
         Ok(()) => println!(rt; "  booked     {step}"),

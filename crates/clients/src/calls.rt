@@ -16,6 +16,7 @@ use server::refusal::Refusal;
 use server::view::View;
 
 impl Clients {
+    /// A table of no clients at slot 0. No `Default` can be derived of a type with ghost fields.
     pub fn new() -> Clients
         ensures { meaning result ≡ no_clients }
     {

@@ -68,12 +68,17 @@ impl Lane {
             front.left -= 1;
             return Served::Unit(client);
         }
-        let front = self.queue.remove(0);
+        let Block {
+            label,
+            length,
+            start,
+            ..
+        } = self.queue.remove(0);
         Served::Departed(Departure {
             client,
-            label: front.label,
-            length: front.length,
-            start: front.start,
+            label,
+            length,
+            start,
         })
     }
 }

@@ -11,12 +11,8 @@ impl CreditServer {
         ensures { result ≡ served_of (meaning self.now.clients) self.now.denominator self.now.shares.items }
     {
         let byte = self.eligible();
-        if byte == 0 {
-            None
-        } else {
-            // At most seven, since a bit is set.
-            Some(byte.trailing_zeros() as u8)
-        }
+        // At most eight, and at most seven where a bit is set.
+        (byte != 0).then_some(byte.trailing_zeros() as u8)
     }
 
     // The eligible clients as one byte, bit c for client c: each has a waiting block, and its share pays for a unit.

@@ -13,7 +13,7 @@ use clients::ticks::{rate_in_range, terms_of};
 use server::rate::{Rate, Terms};
 
 impl CreditBooking {
-    /// Denominator 1, and no clients.
+    /// Denominator 1, and no clients. No `Default` can be derived of a type with ghost fields.
     pub fn new() -> CreditBooking
         ensures { booked_in result ≡ fresh }
     {

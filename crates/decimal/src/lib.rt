@@ -13,7 +13,7 @@ use arrayvec::ArrayVec;
 use itoa::Buffer;
 use std::str;
 
-/// A text of at most ten bytes.
+/// A text of at most ten bytes. They are a vector and no string, since labels are texts of any bytes.
 pub type Text = ArrayVec<u8, 10>;
 
 /// Whether a text is nothing but digits.

@@ -96,7 +96,7 @@ impl FieldCause {
 }
 
 impl LineFault {
-    /// The fault's number.
+    /// The fault's number, by a match, since cases that hold values have no discriminants.
     fn number(self) -> u8
         ensures { result ≡ fault_number self }
     {

@@ -21,7 +21,7 @@ impl FrameBooking {
     ghost use Rattle.clients.specs.Serving.{terms_ok};
     ghost use Rattle.frame.specs.States.{booked_in, state_of, fresh, frame_says, frame_set, terms_say, reserve_says, reserved};
 
-    /// A frame of one slot that nobody owns, and no clients.
+    /// A frame of one slot that nobody owns, and no clients. No `Default` can be derived of a type with ghost fields.
     pub fn new() -> FrameBooking
         ensures { booked_in result ≡ fresh }
     {

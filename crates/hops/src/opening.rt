@@ -10,7 +10,7 @@ use ring::booking::RingBooking;
 use server::server::Server;
 
 impl Hops {
-    /// Nothing is booked.
+    /// Nothing is booked. No `Default` can be derived, since the bookings have none.
     pub fn new() -> Hops
         ensures { booked_in result ≡ fresh }
     {

@@ -1,6 +1,6 @@
 ghost use Rattle.std.specs.Prelude.{◌≡◌, Bool};
 ghost use Rattle.server.specs.declared.view.View.{View as Seen};
-ghost use Rattle.join.specs.Fit.{have_same_rate, are_idle, is_in_reach, each as each_of, passes as passes_both, Tells, fitting};
+ghost use Rattle.join.specs.Fit.{have_same_rate, idle, are_idle, is_in_reach, each as each_of, passes as passes_both, Tells, fitting};
 ghost use Rattle.server.specs.Meant.{meant};
 
 use crate::fit::Misfit;
@@ -13,10 +13,17 @@ fn same_rate(a: View, b: View) -> bool
     a.terms.rate == b.terms.rate
 }
 
+// Whether no block has come yet.
+fn is_idle(view: View) -> bool
+    ensures { result ≡ idle view }
+{
+    view.clock == 0 && view.waiting == 0
+}
+
 fn both_idle(a: View, b: View) -> bool
     ensures { result ≡ are_idle a b }
 {
-    a.clock == 0 && a.waiting == 0 && b.clock == 0 && b.waiting == 0
+    is_idle(a) && is_idle(b)
 }
 
 fn in_reach(a: View, b: View) -> bool

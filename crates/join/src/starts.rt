@@ -14,6 +14,7 @@ pub(crate) struct Starts {
 impl Starts {
     ghost use Rattle.join.specs.Starts.{starts_in, at_row, put_in, told, staying, noted};
 
+    // No starts. A derived `Default` would say of the rows what this says of the starts in them.
     pub(crate) fn new() -> Starts
         ensures { starts_in result ≡ (λ k. []) }
     {
@@ -58,7 +59,8 @@ impl Starts {
         }
     }
 
-    // The first has answered: the start of a departed block is kept.
+    // The first has answered: the start of a departed block is kept. This and what the second is handed are two
+    // effects of one departure, and each has an equation of its own.
     pub(crate) fn note(&mut self, answer: Result<Served, Refusal>)
         ensures { starts_in self.new ≡ noted answer (starts_in self.old) }
     {

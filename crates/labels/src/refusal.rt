@@ -12,9 +12,9 @@ pub enum LabelRefusal {
 impl LabelRefusal {
     /// The number by which the refusal is known. Written for each enum of refusals, since a type parameter
     /// cannot be cast.
-    pub fn number(&self) -> u8
-        ensures { result ≡ refusal_number self.now }
+    pub fn number(self) -> u8
+        ensures { result ≡ refusal_number self }
     {
-        *self as u8
+        self as u8
     }
 }

@@ -23,7 +23,7 @@ use server::refusal::Refusal;
 use showing::{show, tell_fit, tell_hop};
 use station::{credit_hop, frame_hop, ring_hop};
 
-// Stands in the room for an event until its call is made.
+// Stands in the room for an event until its call is made, since what makes the calls writes into its caller's room.
 const NO_EVENT: Event = Event::Slot(Err(Refusal::Ended));
 
 fn main(rt: HostRuntime) -> Result<()> {

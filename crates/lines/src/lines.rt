@@ -15,7 +15,8 @@ const MOST_ASKED: u32 = 65536;
 /// The last slot that a request or the end may name.
 const LAST_SLOT: u32 = 1000000;
 
-/// The kind that the next field names by its letter.
+/// The kind that the next field names by its letter. The fault is made, the text read and the fault given by hand,
+/// here and for the frame's owners: what the reader has for it takes a closure and is not public.
 fn kind(fields: &mut Fields<'_>) -> Result<Kind, FieldFault>
     ensures value { result ≡ kind_in (field_number fields.old) (first_field (fields_left fields.old)) }
     ensures passed { Passed fields.old fields.new }

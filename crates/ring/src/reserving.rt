@@ -63,7 +63,7 @@ impl Shares {
 }
 
 impl RingBooking {
-    /// A ring total of 16, and no clients.
+    /// A ring total of 16, and no clients. No `Default` can be derived of a type with ghost fields.
     pub fn new() -> RingBooking
         ensures { booked_in result ≡ fresh }
     {

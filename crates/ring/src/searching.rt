@@ -2,7 +2,6 @@ ghost use Rattle.std.specs.Prelude.{◌≡◌, ◌+◌, ◌-◌, ◌^◌, ◌<�
 ghost use Rattle.clients.specs.Meant.{meaning};
 ghost use Rattle.clients.specs.Serving.{waits};
 ghost use Rattle.ring.specs.Turns.{place_of, quantum_of, deficit_of, stands_open, next_of, seek, length_of, next_rest, rest_read, turn_to};
-ghost use Rattle.ring.specs.declared.turns.Turn.TheVariants.{Open, Closed};
 
 use crate::ring_server::RingServer;
 use crate::turns::{Place, Rest, Ring, Turn};
@@ -15,7 +14,8 @@ impl RingServer {
         ensures { let m = meaning self.now.clients in result ≡ seek m.count (waits m) m.count (next_of m.count last) }
     {
         let count = self.clients.count();
-        // The clients behind it, and then all: those behind it once more have no block, or were found.
+        // The clients behind it, and then all: those behind it once more have no block, or were found. A range that
+        // ends at `last` would have to be shown to stay within the clients.
         (last + 1..count)
             .chain(0..count)
             .find(|client| self.clients.waits(*client))
@@ -53,7 +53,8 @@ impl Ring {
         }
     }
 
-    // The turn is the client's, with this left of it.
+    // The turn is the client's, with this left of it. The client is at hand where this is called, and would have to
+    // be read out of the turn else.
     pub(crate) fn turn_to(&mut self, client: u8, rest: Rest)
         ensures { self.new ≡ turn_to self.old client rest }
     {
@@ -65,24 +66,10 @@ impl Ring {
 }
 
 impl Rest {
-    // The client's turn goes on.
-    fn open(client: u8, deficit: u32) -> Rest
-        ensures { result ≡ record { deficit = deficit; turn = Open client } }
+    fn new(turn: Turn, deficit: u32) -> Rest
+        ensures { result ≡ record { deficit = deficit; turn = turn } }
     {
-        Rest {
-            deficit,
-            turn: Turn::Open(client),
-        }
-    }
-
-    // The client's turn is over.
-    fn closed(client: u8, deficit: u32) -> Rest
-        ensures { result ≡ record { deficit = deficit; turn = Closed client } }
-    {
-        Rest {
-            deficit,
-            turn: Turn::Closed(client),
-        }
+        Rest { deficit, turn }
     }
 }
 
@@ -92,11 +79,11 @@ fn rest_after(client: u8, deficit: u32, next: Option<Block>) -> Rest
     ensures { result ≡ next_rest client deficit next }
 {
     let Some(block) = next else {
-        return Rest::closed(client, 0);
+        return Rest::new(Turn::Closed(client), 0);
     };
     match deficit.checked_sub(u32::from(block.length)) {
-        Some(left) => Rest::open(client, left),
-        None => Rest::closed(client, deficit),
+        Some(left) => Rest::new(Turn::Open(client), left),
+        None => Rest::new(Turn::Closed(client), deficit),
     }
 }
 
@@ -106,7 +93,7 @@ pub(crate) fn rest_given(client: u8, deficit: u32, served: Served, next: Option<
 {
     match served {
         Served::Departed(_) => rest_after(client, deficit, next),
-        Served::Unit(_) => Rest::open(client, deficit),
-        Served::Nothing => Rest::closed(client, deficit),
+        Served::Unit(_) => Rest::new(Turn::Open(client), deficit),
+        Served::Nothing => Rest::new(Turn::Closed(client), deficit),
     }
 }

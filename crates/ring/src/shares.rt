@@ -2,7 +2,7 @@ use arrayvec::ArrayVec;
 use server::rate::Rate;
 
 /// What a client reserves: its rate, and the quantum that a turn of it adds.
-#[derive(Clone, Copy, Default)]
+#[derive(Clone, Copy, PartialEq, Eq, Default, Debug)]
 pub struct Share {
     pub(crate) rate: Rate,
     pub(crate) quantum: u32,

@@ -1,14 +1,14 @@
 use arrayvec::ArrayVec;
 
 /// A client's place in the ring: the units that a turn of it adds, and those left of its turns so far.
-#[derive(Clone, Copy, Default)]
+#[derive(Clone, Copy, PartialEq, Eq, Default, Debug)]
 pub struct Place {
     pub(crate) quantum: u32,
     pub(crate) deficit: u32,
 }
 
 /// Whose turn it is, or was last. An open turn goes on; a closed one is over.
-#[derive(Clone, Copy)]
+#[derive(Clone, Copy, PartialEq, Eq, Debug)]
 pub enum Turn {
     Open(u8),
     Closed(u8),
@@ -23,7 +23,7 @@ pub struct Ring {
 }
 
 /// What is left of a turn after a unit went: the client's deficit, and the turn.
-#[derive(Clone, Copy)]
+#[derive(Clone, Copy, PartialEq, Eq, Debug)]
 pub struct Rest {
     pub(crate) deficit: u32,
     pub(crate) turn: Turn,

@@ -1,5 +1,5 @@
 /// A block that a client submits in a slot, and the due that this grants or the number of its refusal.
-#[derive(Clone, Copy)]
+#[derive(Clone, Copy, PartialEq, Eq, Debug)]
 pub struct Submission {
     pub slot: u32,
     pub client: u8,

@@ -30,7 +30,8 @@ fn set_up<B: Bookings>(bookings: &mut B, line: &[u8]) -> Result<Header, LineFaul
     Ok(header)
 }
 
-/// The trace behind its last line: whole where that was the end and nothing is left.
+/// The trace behind its last line: whole where that was the end and nothing is left. The place is a state of the
+/// reading, and is asked here for the last time.
 fn finish(reading: Reading, number: u32, rest: &[u8]) -> Result<Trace, RunFault>
     ensures { told_by result ≡ finished (seen_of reading) number rest.now }
 {
