@@ -19,7 +19,7 @@ const RANGING: Option<u8> = Some(Source::Ranging as u8);
 const PAYLOAD: Option<u8> = Some(Source::Payload as u8);
 
 // Eight slots: four of payload, two of ranging, one of housekeeping, one of nobody.
-const OWNERS: [Option<u8>; 8] = [
+const OWNERS: &[Option<u8>] = &[
     PAYLOAD,
     RANGING,
     PAYLOAD,
@@ -31,7 +31,7 @@ const OWNERS: [Option<u8>; 8] = [
 ];
 
 // A frame with an owner that can be no client.
-const BAD_OWNERS: [Option<u8>; 2] = [HOUSEKEEPING, Some(8)];
+const BAD_OWNERS: &[Option<u8>] = &[HOUSEKEEPING, Some(8)];
 
 // Tells how a step of a booking went, in words that repeat its numbers, since they are what is printed.
 fn tell(rt: &impl Print, step: &str, answer: Result<(), BookingRefusal>) -> io::Result<()> {
@@ -55,9 +55,9 @@ pub fn frame_hop(rt: &impl Print) -> io::Result<FrameServer> {
     tell(
         rt,
         "a frame with a slot of client 8",
-        booking.set_frame(&BAD_OWNERS),
+        booking.set_frame(BAD_OWNERS),
     )?;
-    tell(rt, "a frame of eight slots", booking.set_frame(&OWNERS))?;
+    tell(rt, "a frame of eight slots", booking.set_frame(OWNERS))?;
     tell(
         rt,
         "housekeeping, 1 unit in 8 slots, 1 slot of the frame",
@@ -79,7 +79,7 @@ pub fn frame_hop(rt: &impl Print) -> io::Result<FrameServer> {
         booking.reserve(CAMERA_RATE),
     )?;
     tell(rt, "camera, 3 units in 2 slots", booking.reserve(TOO_FAST))?;
-    tell(rt, "another frame", booking.set_frame(&OWNERS))?;
+    tell(rt, "another frame", booking.set_frame(OWNERS))?;
     Ok(booking.open())
 }
 

@@ -1,6 +1,7 @@
 // Credit-controlled static priority by example: small cases worked out by hand, each refusal once,
 // and a longer run beside a table that a model of the rules gave. A run is one letter a slot: a full
-// stop where nothing went, a digit for a unit of that client, a capital for a block's last unit.
+// stop where nothing went, a digit for a unit of that client, a capital for a block's last unit. What is booked
+// and what is refused differs from hop to hop, so each hop has cases of its own.
 #![tactic(auto)]
 
 #[cfg(test)]
@@ -121,7 +122,7 @@ mod tests {
     }
 
     // Slot, client, length, and the due or the number of the refusal.
-    const SUBMISSIONS: [Submission; 51] = submissions![
+    const SUBMISSIONS: &[Submission] = &submissions![
         2 2 16 Ok(72),
         7 3 4 Ok(78),
         7 1 4 Ok(94),
@@ -189,7 +190,7 @@ mod tests {
         booking.reserve(rate(1, 4), 5, 32)?;
         booking.reserve(rate(2, 7), 6, 100)?;
         let mut server = booking.open();
-        play(&mut server, &SUBMISSIONS, SERVED)?;
+        play(&mut server, SUBMISSIONS, SERVED)?;
         assert_eq!(rt; server.now(), 120);
         assert_eq!(rt; server.clock(0)?, 591);
         assert_eq!(rt; server.clock(3)?, 497);

@@ -56,7 +56,7 @@ impl<A: Server, B: Server> Server for Chain<A, B> {
     fn submit(&mut self, client: u8, label: u32, length: u8) -> Result<u64, Refusal> {
         let view = self.view(client)?;
         view.accept(length)?;
-        // Granted, since fewer wait in the first than in both.
+        // Granted, since no more wait in the first than in both.
         let _ = self.first.submit(client, label, length);
         let start = view.terms.rate.start_at(view.clock, self.now);
         Ok(view.terms.due(start))

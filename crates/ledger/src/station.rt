@@ -20,12 +20,12 @@ const TELEMETRY_RATE: Rate = Rate { p: 1, q: 4 };
 const SCIENCE_RATE: Rate = Rate { p: 2, q: 5 };
 
 // The owners of a frame's four slots: two of science, one of telemetry, one of nobody.
-const OWNERS: [Option<u8>; 4] = [Some(SCIENCE), Some(TELEMETRY), Some(SCIENCE), None];
+const OWNERS: &[Option<u8>] = &[Some(SCIENCE), Some(TELEMETRY), Some(SCIENCE), None];
 
 // The three hops are booked by functions of their own, since each takes a share of its own kind.
 pub fn frame_hop() -> Result<FrameServer, Unbooked> {
     let mut booking = FrameBooking::new();
-    booking.set_frame(&OWNERS)?;
+    booking.set_frame(OWNERS)?;
     booking.reserve(TELEMETRY_RATE)?;
     booking.reserve(SCIENCE_RATE)?;
     Ok(booking.open())

@@ -1,6 +1,5 @@
 -- The bytes of a log. Assumes nothing.
 use Rattle.std.specs.Prelude.{ℕ, List, [], ◌∷◌, ◌++◌, Some, None, decimal, Option}
-use Rattle.server.specs.Refusals.{number_of}
 use Rattle.logs.specs.declared.line.Line.{Line}
 use Rattle.logs.specs.declared.line.Line.TheVariants.{Latency, Grant, Refusal, Departure}
 
@@ -19,7 +18,7 @@ module _ (writes : ℕ → Option (List ℕ)) where
   abbrev pub line_text : Line → List ℕ
   line_text (Latency l) = 84 ∷ fields (decimal l.client ∷ decimal l.latency ∷ decimal l.slots ∷ [])
   line_text (Grant l) = 71 ∷ fields (decimal l.slot ∷ decimal l.client ∷ label_text (writes l.label) ∷ decimal l.due ∷ [])
-  line_text (Refusal l) = 88 ∷ fields (decimal l.slot ∷ decimal l.client ∷ label_text (writes l.label) ∷ decimal (number_of l.refusal) ∷ [])
+  line_text (Refusal l) = 88 ∷ fields (decimal l.slot ∷ decimal l.client ∷ label_text (writes l.label) ∷ decimal l.number ∷ [])
   line_text (Departure l) = 76 ∷ fields (decimal l.slot ∷ decimal l.client ∷ label_text (writes l.label) ∷ [])
 
   -- line after line

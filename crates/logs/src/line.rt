@@ -1,6 +1,5 @@
 // The lines of a log. Each has its own fields in the order in which they are written, so no struct holds the three
 // that most of them share.
-use server::refusal::Refusal;
 
 /// A client's latency, in ticks and in slots.
 #[derive(Clone, Copy, PartialEq, Eq, Debug)]
@@ -19,13 +18,14 @@ pub struct GrantLine {
     pub due: u64,
 }
 
-/// A block that was refused at a slot, and why. Its line tells the refusal by its number.
+/// A block that was refused at a slot, with the refusal's number. A `Refusal` would be a narrower type: a line may be
+/// made of any number.
 #[derive(Clone, Copy, PartialEq, Eq, Debug)]
 pub struct RefusalLine {
     pub slot: u32,
     pub client: u8,
     pub label: u32,
-    pub refusal: Refusal,
+    pub number: u8,
 }
 
 /// A block that departed, and when.

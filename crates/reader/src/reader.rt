@@ -24,7 +24,8 @@ impl<'a> Reader<'a> {
         self.bytes
     }
 
-    /// The next line, and the reading goes on behind its end. A line whose end is missing stays unread.
+    /// The next line, and the reading goes on behind its end. A line whose end is missing stays unread. This would be
+    /// `next` of an `Iterator`, whose `impl` has members for proofs that one caller would not make up for.
     pub fn line(&mut self) -> Option<&'a [u8]>
         ensures value { option_copied result ≡ next_line (left self.old) }
         ensures after { left self.new ≡ after_line (left self.old) }

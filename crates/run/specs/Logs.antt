@@ -1,6 +1,7 @@
 -- The lines of a log: what is written of a server's calls and answers. Assumes nothing.
 use Rattle.std.specs.Prelude.{ℕ, zero, suc, ◌+◌, ◌-◌, ◌/◌, List, [], ◌∷◌, ◌++◌, Some, None, Ok, Err, Option}
 use Rattle.server.specs.Meaning.{Client, Meaning}
+use Rattle.server.specs.Refusals.{number_of}
 use Rattle.server.specs.declared.block.Served.TheVariants.{Nothing, Unit as OneUnit, Departed}
 use Rattle.book.specs.declared.calls.Event.{Event}
 use Rattle.book.specs.declared.calls.Event.TheVariants.{Submit, Slot, Ask}
@@ -17,7 +18,7 @@ after t (Ask q a) = t
 -- what is written of an event that leaves the server at slot t
 abbrev pub line_of : ℕ → Event → Option Line
 line_of t (Submit o (Ok due)) = Some (Grant (record { slot = t; client = o.client; label = o.label; due = due }))
-line_of t (Submit o (Err e)) = Some (Refusal (record { slot = t; client = o.client; label = o.label; refusal = e }))
+line_of t (Submit o (Err e)) = Some (Refusal (record { slot = t; client = o.client; label = o.label; number = number_of e }))
 line_of t (Slot (Ok Nothing)) = None
 line_of t (Slot (Ok (OneUnit c))) = None
 line_of t (Slot (Ok (Departed d))) = Some (Departure (record { slot = t; client = d.client; label = d.label }))

@@ -25,7 +25,7 @@ pub(crate) fn line_of(slot: u32, event: Event) -> Option<Line>
             slot,
             client: order.client,
             label: order.label,
-            refusal,
+            number: refusal.number(),
         })),
         Event::Slot(Ok(Served::Departed(block))) => Some(Line::Departure(DepartureLine {
             slot,

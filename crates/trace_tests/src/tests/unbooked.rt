@@ -128,6 +128,7 @@ fn cut_anywhere(rt: HostRuntime) {
         b"H,S,4,64\nF,01..\nB,1,4,1,4,16\nB,1,4,1,4,16\nR,0,0,7,2\nR,0,1,8,1\nR,11,0,9,17\nE,12\n";
     for cut in 0..sample.len() {
         let front = &sample[..cut];
+        // No more lines than the sample has bytes, so the cast loses nothing.
         let line = marks::count(front, b'\n') as u32 + 1;
         assert_eq!(rt;
             told(front, Unbooked),
