@@ -1,8 +1,10 @@
 -- The lowest set bit of the byte is the first flag that is set.
-use Rattle.std.proofs.Common.{◌≡◌, ℕ, zero, suc, ◌+◌, ◌*◌, ◌/◌, ◌%◌, ◌^◌, ◌<◌, ◌≤◌, Bool, true, false, cond, List, [], ◌∷◌, ◌++◌, length, Some, None, sym, refl, ap, ◌∙◌, subst, one-mul, arith}
+use Rattle.std.proofs.Common.{◌≡◌, ℕ, zero, suc, ◌+◌, ◌*◌, ◌/◌, ◌%◌, ◌^◌, ◌<◌, ◌≤◌, Bool, true, false, cond, not, eqb, eqb-true, List, [], ◌∷◌, ◌++◌, length, Some, None, sym, refl, ap, ◌∙◌, subst, one-mul, arith}
 use native.Mathlib.Nat.{pow-succ'}
+use borrow.Author.Tests.{eqb-false}
 use lib.Bits.{bit_or, or_shifted_r}
 use lib.Count.{count_trailing_zeros}
+use Rattle.std.specs.Bool.{then_some}
 use Rattle.std.proofs.lemmas.Nat.{one_shl}
 use Rattle.credits.specs.Shares.{byte_of, lowest}
 
@@ -65,3 +67,11 @@ pub lowest_bit : (byte : ℕ) (bs : List Bool) → length bs ≤ 8 → byte ≡ 
 lowest_bit byte bs few e some =
     let z : count_trailing_zeros 8 byte ≡ 0 + count_trailing_zeros 8 (byte_of bs) = (let y : count_trailing_zeros 8 byte ≡ count_trailing_zeros 8 (byte_of bs) = ap (count_trailing_zeros 8) e in omega (arith, y)) in
     ap (λ (j : ℕ). Some j) z ∙ sym (trailing_lowest 8 0 bs few (omega (arith, e, some)))
+
+-- the count of trailing zeros, where a bit is set
+pub lowest_or_none : (byte : ℕ) (bs : List Bool) → length bs ≤ 8 → byte ≡ byte_of bs → then_some (not (eqb byte 0)) (count_trailing_zeros 8 byte) ≡ lowest 0 bs
+lowest_or_none byte bs few e = by (eqb byte 0) refl
+  where
+    by : (t : Bool) → eqb byte 0 ≡ t → then_some (not t) (count_trailing_zeros 8 byte) ≡ lowest 0 bs
+    by true h = sym (lowest_none 0 bs (sym e ∙ eqb-true byte 0 h))
+    by false h = lowest_bit byte bs few e (eqb-false byte 0 h)
