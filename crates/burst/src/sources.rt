@@ -1,7 +1,8 @@
 use server::rate::Rate;
 use std::fmt;
 
-// The sources of this program, which no other has, in the order of their client numbers, and one that no hop has booked.
+// The sources of this program, which no other has, in the order of their client numbers, and one that no hop has
+// booked.
 #[derive(Clone, Copy, PartialEq, Eq, Debug)]
 pub enum Source {
     Housekeeping,
@@ -11,7 +12,7 @@ pub enum Source {
 }
 
 impl Source {
-    // The sources that are booked.
+    // The sources that are booked: an array and no slice, since it is gone through by value.
     pub const BOOKED: [Source; 3] = [Source::Housekeeping, Source::Ranging, Source::Payload];
 }
 

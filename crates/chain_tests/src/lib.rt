@@ -113,6 +113,7 @@ mod tests {
         Ok(())
     }
 
+    // What is booked and what is refused differs from hop to hop, so each hop has a test of its own.
     #[test]
     fn frame_refuses(rt: HostRuntime) -> Result<(), Fail> {
         let number = BookingRefusal::number;
@@ -273,6 +274,7 @@ mod tests {
             Call::Slot,
             Call::Slot,
         ];
+        // The room for the events; one stands in it until its call is made.
         let mut events = [Event::Slot(Ok(Served::Nothing)); 4];
         let chain = join_and_drive(framed()?, credited()?, &calls, &mut events);
         assert_eq!(rt; chain.now(), 3);

@@ -113,7 +113,7 @@ impl CreditServer {
     }
 }
 
-// Whether the denominator is within its range.
+// Whether the denominator is within its range. Each number of the rules has a definition of its own, and so a function.
 fn denominator_in_range(denominator: u32) -> bool
     ensures { result ≡ denominator_ok denominator }
 {

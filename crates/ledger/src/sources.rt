@@ -1,6 +1,7 @@
 use std::fmt;
 
-// The sources of this program, which no other has, in the order of their client numbers, and one that no hop has booked.
+// The sources of this program, which no other has, in the order of their client numbers, and one that no hop has
+// booked.
 #[derive(Clone, Copy, PartialEq, Eq, Debug)]
 pub enum Source {
     Telemetry,

@@ -13,7 +13,8 @@ pub fn position(bytes: &[u8], mark: u8) -> Option<usize>
     bytes.iter().position(|byte| *byte == mark)
 }
 
-/// How many bytes stand before the first `mark`, all where there is none.
+/// How many bytes stand before the first `mark`, all where there is none, so that no caller has to write that beside
+/// `position`.
 pub fn span(bytes: &[u8], mark: u8) -> usize
     ensures { result ≡ span_to mark bytes.now }
 {

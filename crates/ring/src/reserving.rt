@@ -15,14 +15,15 @@ use clients::table::Clients;
 use clients::ticks::{rate_in_range, terms_of};
 use server::rate::Rate;
 
-// Whether a ring total is within its range.
+// Whether a ring total is within its range. Each number of the rules has a definition of its own, and so a function;
+// one for all would have to be given the bounds.
 fn total_in_range(total: u32) -> bool
     ensures { result ≡ total_ok total }
 {
     (16..=8192).contains(&total)
 }
 
-// Whether a quantum is within its range.
+// Whether a quantum is within its range, by a function of its own as well.
 fn quantum_in_range(quantum: u32) -> bool
     ensures { result ≡ quantum_ok quantum }
 {

@@ -32,7 +32,8 @@ pub struct Terms {
 }
 
 impl Terms {
-    /// The slot by which a block of this start has left, or 0 where there is no rate. No client is without one, and nothing is asked of a caller.
+    /// The slot by which a block of this start has left, or 0 where there is no rate. No client is without one, and
+    /// nothing is asked of a caller.
     pub fn due(self, start: u64) -> u64
         ensures { result ≡ due_within self start }
     {
@@ -40,7 +41,8 @@ impl Terms {
         end.checked_div(u64::from(self.rate.p)).unwrap_or(0)
     }
 
-    /// The latency in slots, rounded up, or 0 where there is no rate. No client is without one, and nothing is asked of a caller.
+    /// The latency in slots, rounded up, or 0 where there is no rate. No client is without one, and nothing is asked
+    /// of a caller.
     pub fn slots(self) -> u32
         ensures { result ≡ slots_of self }
     {

@@ -57,7 +57,7 @@ pub trait Server {
     }
 
     /// A block of the client: its due, or a refusal that leaves the server as it was. Three parameters and no
-    /// struct, since every server takes them apart at once; a list of calls has a value that holds them.
+    /// struct, as the rule names them; where a list holds calls, a value holds the three.
     fn submit(&mut self, client: u8, label: u32, length: u8) -> Result<u64, Refusal>
         ensures answers { result ≡ granting (means (state self.old)) client length }
         ensures leaves { means (state self.new) ≡ submitted (means (state self.old)) client label length }

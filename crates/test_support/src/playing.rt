@@ -46,13 +46,14 @@ fn submit<S: Server>(server: &mut S, row: &Submission) -> Result<(), Mismatch>
     Ok(())
 }
 
-/// Hands a server the blocks of a table that come in its present slot. After a mismatch the rows above it are
-/// entered, and that row too if it was granted.
+/// Hands a server the blocks of a table that come in its present slot. After a mismatch the blocks that were granted
+/// up to there are entered, that row's too if it was granted.
 pub fn submit_all<S: Server>(server: &mut S, submissions: &[Submission]) -> Result<(), Mismatch>
     ensures { OnOk result (S.Server.named → SubmitsAll S.Server.means S.Server.machine submissions.now (S.Server.state server.old) (S.Server.state server.new)) }
 {
     let slot = server.now();
-    // No `filter`: a loop over a chain with a closure gets no invariant in a function with a type parameter.
+    // No `filter`: of a loop over a chain with a closure the check refuses a declaration of its own, where a function
+    // with a type parameter has an invariant to keep.
     for row in submissions {
         if row.slot == slot {
             submit(server, row)?;

@@ -52,7 +52,7 @@ impl Reading {
     {
         let client = client(line)?;
         bookings.reserve(&client)?;
-        // A station's bookings have refused a ninth client by now. Only bookings that refuse nothing come here
+        // A station's bookings have refused a ninth client by now. Only bookings that do not refuse it come here
         // with one, and then the first eight are kept.
         let _ = self.clients.try_push(client);
         self.place = Place::Clients;
