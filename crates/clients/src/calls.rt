@@ -9,11 +9,11 @@ use crate::booking::NotAdmitted;
 use crate::lane::Lane;
 use crate::table::Clients;
 use crate::ticks::in_range;
-use arrayvec::ArrayVec;
 use server::block::{Block, Served};
 use server::rate::Terms;
 use server::refusal::Refusal;
 use server::view::View;
+use tables::Table;
 
 impl Clients {
     /// A table of no clients at slot 0. No `Default` can be derived of a type with ghost fields.
@@ -22,7 +22,7 @@ impl Clients {
     {
         Clients {
             slots: 0,
-            lanes: ArrayVec::new(),
+            lanes: Table::new(Lane::default()),
         }
     }
 
@@ -35,16 +35,14 @@ impl Clients {
         if !in_range(terms) {
             return Err(NotAdmitted);
         }
-        self.lanes
-            .try_push(Lane::new(terms))
-            .map_err(|_| NotAdmitted)
+        self.lanes.push(Lane::new(terms)).map_err(|_| NotAdmitted)
     }
 
     pub fn count(&self) -> u8
         ensures { result ≡ (meaning self.now).count }
     {
         // At most eight.
-        self.lanes.len() as u8
+        self.lanes.count as u8
     }
 
     pub fn now(&self) -> u32
@@ -57,21 +55,31 @@ impl Clients {
     pub fn view(&self, client: u8) -> Result<View, Refusal>
         ensures { result ≡ asked (meaning self.now) client view_of }
     {
-        Ok(self.lane(client)?.view())
+        let lane = self.lane(client)?;
+        Ok(View {
+            terms: lane.terms,
+            clock: lane.clock,
+            // At most eight.
+            waiting: lane.queue.count as u8,
+        })
     }
 
     /// Whether the client has a waiting block.
     pub fn waits(&self, client: u8) -> bool
         ensures { result ≡ waits_in (meaning self.now) client }
     {
-        self.front(client).is_some()
+        let place = usize::from(client);
+        place < self.lanes.count && self.lanes.items[place].queue.count > 0
     }
 
     /// The client's oldest waiting block.
     pub fn front(&self, client: u8) -> Option<Block>
         ensures { result ≡ front_at (meaning self.now) client }
     {
-        self.lane(client).ok()?.queue.first().copied()
+        if !self.waits(client) {
+            return None;
+        }
+        Some(self.lanes.items[usize::from(client)].queue.items[0])
     }
 
     /// A block of the client: its due, or a refusal that leaves the table as it was.
@@ -79,12 +87,10 @@ impl Clients {
         ensures answers { result ≡ granting (meaning self.old) client units }
         ensures leaves { meaning self.new ≡ submitted (meaning self.old) client label units }
     {
-        let lane = self
-            .lanes
-            .get_mut(usize::from(client))
-            .ok_or(Refusal::NoClient)?;
-        lane.view().accept(units)?;
-        Ok(lane.enter(label, units, self.slots))
+        self.view(client)?.accept(units)?;
+        let slot = self.slots;
+        let lanes = &mut self.lanes.items[..];
+        Ok(lanes[usize::from(client)].enter(label, units, slot))
     }
 
     /// One slot, which serves the chosen client if it has a waiting block.
@@ -95,7 +101,10 @@ impl Clients {
         let served = self.served_by(who);
         self.slots = self.slots.checked_add(1).ok_or(Refusal::Ended)?;
         match served {
-            Some(client) => Ok(self.lanes[usize::from(client)].serve(client)),
+            Some(client) => {
+                let lanes = &mut self.lanes.items[..];
+                Ok(lanes[usize::from(client)].serve(client))
+            }
             None => Ok(Served::Nothing),
         }
     }
@@ -112,6 +121,7 @@ impl Clients {
         ensures known { IfOk result (λ l. (client < (meaning self.now).count) × (client_of l.now ≡ (meaning self.now).client client)) }
         ensures unknown { IfErr result (λ e. ((meaning self.now).count ≤ client) × (e ≡ NoClient)) }
     {
-        self.lanes.get(usize::from(client)).ok_or(Refusal::NoClient)
+        let lanes = self.lanes.as_slice();
+        lanes.get(usize::from(client)).ok_or(Refusal::NoClient)
     }
 }

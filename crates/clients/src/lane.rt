@@ -1,18 +1,30 @@
 ghost use Rattle.std.specs.Prelude.{◌≡◌, ◌+◌, ◌*◌, ◌^◌, ◌<◌, length};
-ghost use Rattle.server.specs.Calls.{due_within, entered, gone, serve as served, start_at, view_of};
-ghost use Rattle.clients.specs.View.{client_of, new_client};
+ghost use Rattle.server.specs.Calls.{due_within, entered, gone, serve as served, start_at};
+ghost use Rattle.clients.specs.View.{client_of, new_client, vacant};
 
-use arrayvec::ArrayVec;
 use server::block::{Block, Departure, Served};
 use server::rate::Terms;
-use server::view::View;
+use tables::Table;
 
 /// One client: what it reserved, its clock in ticks, and its waiting blocks, oldest first.
-#[derive(Default, Drop)]
+#[derive(Clone, Copy)]
 pub struct Lane {
     pub(crate) terms: Terms,
     pub(crate) clock: u64,
-    pub(crate) queue: ArrayVec<Block, 8>,
+    pub(crate) queue: Table<Block, 8>,
+}
+
+/// A place that nobody has taken. Not derived, since a table has no `Default`.
+impl Default for Lane {
+    ghost is_default = { λ lane. client_of lane ≡ new_client vacant };
+
+    fn default() -> Lane {
+        Lane {
+            terms: Terms::default(),
+            clock: 0,
+            queue: Table::new(Block::default()),
+        }
+    }
 }
 
 impl Lane {
@@ -26,17 +38,6 @@ impl Lane {
         }
     }
 
-    pub(crate) fn view(&self) -> View
-        ensures { result ≡ view_of (client_of self.now) }
-    {
-        View {
-            terms: self.terms,
-            clock: self.clock,
-            // At most eight.
-            waiting: self.queue.len() as u8,
-        }
-    }
-
     // A block enters at this slot: its due.
     pub(crate) fn enter(&mut self, label: u32, units: u8, slot: u32) -> u64
         requires room { length (client_of self.old).waiting < 8 }
@@ -47,12 +48,13 @@ impl Lane {
         let rate = self.terms.rate;
         let start = rate.start_at(self.clock, slot);
         self.clock = start + rate.ticks(units);
-        self.queue.push(Block {
+        self.queue.items[self.queue.count] = Block {
             label,
             length: units,
             left: units,
             start,
-        });
+        };
+        self.queue.count += 1;
         self.terms.due(start)
     }
 
@@ -61,9 +63,11 @@ impl Lane {
         ensures answers { result ≡ gone client (client_of self.old).waiting }
         ensures leaves { client_of self.new ≡ served (client_of self.old) }
     {
-        let Some(front) = self.queue.first_mut() else {
+        let queue = &mut self.queue;
+        if queue.count == 0 {
             return Served::Nothing;
-        };
+        }
+        let front = &mut queue.items[0];
         if front.left > 1 {
             front.left -= 1;
             return Served::Unit(client);
@@ -73,7 +77,8 @@ impl Lane {
             length,
             start,
             ..
-        } = self.queue.remove(0);
+        } = *front;
+        queue.remove_first();
         Served::Departed(Departure {
             client,
             label,

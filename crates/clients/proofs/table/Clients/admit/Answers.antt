@@ -9,6 +9,5 @@ use Rattle.clients.proofs.table.Clients.admit.Goals as goal
 pub invariant_of-self : goal.invariant_of-self
 invariant_of-self c =
     let x = c.args.self.now in
-    let p = c.try_push.ensures in
-    let e = pushed_is x.slots x.lanes c.try_push.new.self c.new.result c.args.terms c.try_push.result c.new.ensures (sym c.if-not-in_range.ensures) p.variant.1 p.variant.0 p.ok p.err in
+    let e = pushed_is x.slots c.args.terms c.if-not-in_range.ensures x.lanes c.push.new.self c.new.result c.new.ensures c.push.ensures.after in
     record { kept = ∥∥₁_map x.kept (λ g. subst Kept (sym e) (kept_admitted (viewed x.slots x.lanes) c.args.terms g)) }

@@ -1,47 +1,42 @@
-use Rattle.std.proofs.Common.{◌≡◌, ◌<◌, ℕ, Ok, length, get_or, sym, ap, ◌∙◌, subst, rules}
+use Rattle.std.proofs.Common.{ℕ, sym, ap, ◌∙◌, subst, arith}
 use mathlib.Core.Logic.{∥∥₁_map}
-use Rattle.server.specs.declared.view.View.{View}
-use Rattle.server.specs.Calls.{accepting, view_of, granting, submitted}
-use Rattle.server.proofs.Grants.{accepted}
+use Rattle.server.specs.Calls.{asked, view_of, granting, submitted}
 use Rattle.clients.specs.Held.{Kept}
-use Rattle.clients.specs.View.{viewed, client_of}
+use Rattle.clients.specs.View.{viewed}
 use Rattle.clients.proofs.Kept.{kept_submitted}
-use Rattle.clients.proofs.Places.{enter_small, submit_says, submit_leaves}
+use Rattle.clients.proofs.Places.{with_item, let_in, enter_small, submit_says, submit_leaves}
 use Rattle.clients.proofs.table.Clients.submit.Goals as goal
 
 pub enter-requires-clause-small : goal.enter-requires-clause-small
 enter-requires-clause-small c =
     let x = c.args.self.now in
-    let was = c.in_ok-lane.lane.now in
+    let m = viewed x.slots x.lanes in
     let i = c.from.result in
-    let known : i < length x.lanes.items = search rules in
-    let same : was ≡ get_or x.lanes.items i was = search rules in
-    let accepts : Ok tt ≡ accepting (view_of (client_of was)) c.args.units = c.in_ok-accept.ensures ∙ ap (λ (v : View). accepting v c.args.units) c.view.ensures in
-    enter_small x.slots x.lanes i was known same x.kept c.args.units (accepted (view_of (client_of was)) c.args.units accepts).1
+    let told = c.in_ok-view.ensures ∙ ap (λ (k : ℕ). asked m k view_of) (sym c.from.ensures) in
+    let g = let_in x.slots x.lanes i c.args.units c.in_ok-view.field-0 told c.in_ok-accept.ensures in
+    omega (arith, enter_small x.slots x.lanes i c.index-lanes-from.result g.0 x.kept c.args.units g.2)
 
-pub invariant_of-self-2 : goal.invariant_of-self-2
-invariant_of-self-2 c =
+pub invariant_of-self : goal.invariant_of-self
+invariant_of-self c =
     let x = c.args.self.now in
-    let was = c.in_ok-lane.lane.now in
+    let m = viewed x.slots x.lanes in
     let i = c.from.result in
-    let known : i < length x.lanes.items = search rules in
-    let same : was ≡ get_or x.lanes.items i was = search rules in
-    let accepts : Ok tt ≡ accepting (view_of (client_of was)) c.args.units = c.in_ok-accept.ensures ∙ ap (λ (v : View). accepting v c.args.units) c.view.ensures in
-    let e = submit_leaves x.slots x.lanes i was known same c.args.units accepts c.args.label c.enter.new.self c.enter.ensures.leaves in
-    record { kept = ∥∥₁_map x.kept (λ g. subst Kept (sym e) (kept_submitted (viewed x.slots x.lanes) i c.args.label c.args.units g)) }
+    let told = c.in_ok-view.ensures ∙ ap (λ (k : ℕ). asked m k view_of) (sym c.from.ensures) in
+    let g = let_in x.slots x.lanes i c.args.units c.in_ok-view.field-0 told c.in_ok-accept.ensures in
+    let w = with_item x.lanes i c.enter.new.self in
+    let e = submit_leaves x.slots x.lanes i c.index-lanes-from.result g.0 c.args.units g.1 g.2 g.3 c.args.label c.enter.new.self c.enter.ensures.leaves in
+    ((w.full, (w.few, tt)), (∥∥₁_map x.kept (λ h. subst Kept (sym e) (kept_submitted m i c.args.label c.args.units h)), tt))
 
 pub returns : goal.returns
 returns c =
     let x = c.args.self.now in
-    let was = c.in_ok-lane.lane.now in
-    let i = c.from.result in
-    let known : i < length x.lanes.items = search rules in
-    let same : was ≡ get_or x.lanes.items i was = search rules in
-    let accepts : Ok tt ≡ accepting (view_of (client_of was)) c.args.units = c.in_ok-accept.ensures ∙ ap (λ (v : View). accepting v c.args.units) c.view.ensures in
     let m = viewed x.slots x.lanes in
+    let i = c.from.result in
+    let told = c.in_ok-view.ensures ∙ ap (λ (k : ℕ). asked m k view_of) (sym c.from.ensures) in
+    let g = let_in x.slots x.lanes i c.args.units c.in_ok-view.field-0 told c.in_ok-accept.ensures in
     record {
-      answers = submit_says x.slots x.lanes i was known same c.args.units accepts x.kept c.enter.result c.enter.ensures.answers
+      answers = submit_says x.slots x.lanes i c.index-lanes-from.result g.0 c.args.units g.1 g.2 g.3 x.kept c.enter.result c.enter.ensures.answers
           ∙ ap (λ (k : ℕ). granting m k c.args.units) c.from.ensures;
-      leaves = submit_leaves x.slots x.lanes i was known same c.args.units accepts c.args.label c.enter.new.self c.enter.ensures.leaves
+      leaves = submit_leaves x.slots x.lanes i c.index-lanes-from.result g.0 c.args.units g.1 g.2 g.3 c.args.label c.enter.new.self c.enter.ensures.leaves
           ∙ ap (λ (k : ℕ). submitted m k c.args.label c.args.units) c.from.ensures;
     }
