@@ -4,11 +4,12 @@ use Rattle.std.specs.List.{list_all, range_with_len}
 use Rattle.std.specs.Option.{option_eq}
 use Rattle.clients.specs.declared.booking.BookingRefusal.{BookingRefusal}
 use Rattle.clients.specs.declared.booking.BookingRefusal.TheVariants.{Range}
+use Rattle.tables.specs.Tables.{listed}
 use Rattle.frame.specs.declared.owners.Frame.{Frame}
 
 -- the owners of the frame's slots, in order
 abbrev pub owners_in : Frame → List (Option ℕ)
-owners_in f = f.owners.items
+owners_in f = listed f.owners
 
 -- the owner of slot t: the frame goes round
 abbrev pub owner_at : List (Option ℕ) → ℕ → Option ℕ

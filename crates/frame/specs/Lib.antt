@@ -3,3 +3,4 @@ pub mod Paced
 pub mod States
 pub mod Pacing
 pub mod Windows
+pub mod FramesLemmas

@@ -129,15 +129,20 @@ module _ (m : Meaning) (os : List (Option ℕ)) (some : 1 ≤ length os) where
       λ k l. subst (λ (t : ℕ). Share os t k ((admitted m terms).client k)) (sym (admitted_now m terms))
       (admitted_elim (Share os m.now) m terms (share_new os some m.now m.count terms (rate_ranged x ok).1 enough refl) h k l)
 
+latency_ranged : (p q θ : ℕ) → 1 ≤ p → p ≤ q → q ≤ 1024 → θ ≤ 256 → (p ≤ latency_for p q θ) × (latency_for p q θ ≤ 4194304)
+latency_ranged p q θ slow rate small few =
+    (omega (arith, rate), omega (arith, small, mul-le-mul {n₂ = 1024} {m₂ = 256} (let l : p ≤ 1024 = omega arith in l) few))
+
 module _ (m : Meaning) (os : List (Option ℕ)) (some : 1 ≤ length os) (most : length os ≤ 256) (x : Rate) (ok : rate_ok x ≡ true) where
   abbrev terms : Terms
   terms = record { rate = x; latency = latency_for x.p x.q (theta m.count os) }
 
+  ranged : (x.p ≤ terms.latency) × (terms.latency ≤ 4194304)
+  ranged = let r = rate_ranged x ok in latency_ranged x.p x.q (theta m.count os) r.0 r.1 r.2 (omega arith)
+
   pub latency_fits : latency_for x.p x.q (theta m.count os) ≤ 4194304
-  latency_fits =
-      let r = rate_ranged x ok in
-      omega (arith, r.0, r.1, r.2, mul-le-mul {n₂ = 1024} {m₂ = 256} (let l : x.p ≤ 1024 = omega arith in l) (let l : theta m.count os ≤ 256 = omega arith in l))
+  latency_fits = ranged.1
 
   -- so no rate in range is turned away for its latency
   pub terms_fit : terms_ok terms ≡ true
-  terms_fit = ranged_terms terms ok (omega (arith, (rate_ranged x ok).1)) latency_fits
+  terms_fit = ranged_terms terms ok ranged.0 ranged.1

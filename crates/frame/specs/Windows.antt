@@ -1,11 +1,15 @@
 -- Every run of slots holds the client's share of them, but for θ slots.
-use Rattle.std.specs.Prelude.{◌≡◌, ℕ, zero, suc, ◌+◌, ◌-◌, ◌*◌, ◌<◌, ◌≤◌, List, length, get_or, None, Option, refl}
+use Rattle.std.specs.Prelude.{◌≡◌, ℕ, zero, suc, ◌+◌, ◌-◌, ◌*◌, ◌<◌, ◌≤◌, List, length, get_or, drop, None, Option}
 use Rattle.std.proofs.Common.{sym, ap, ◌∙◌, ⊎_elim, arith, mul-le-mul_left, mul-le-mul_right, mul-add, mod-eq_of_lt}
 use Rattle.std.proofs.Math.Nat.{add-mod_right}
-use Rattle.std.proofs.lemmas.List.FromFn.{length-map-range_with_len, fill_by_all}
-use Rattle.std.proofs.lemmas.List.Sums.{sum_by-cons, count_by-le-length}
-use Rattle.std.proofs.lemmas.Bool.{cases_lt}
+use Rattle.std.proofs.lemmas.List.FromFn.{length-map-range_with_len}
+use Rattle.std.proofs.lemmas.List.{at_drop_all}
+use Rattle.std.proofs.lemmas.List.Sums.{sum_by-cons, sum_by-drop_more, count_by-le-length}
+use Rattle.std.proofs.lemmas.Bool.{cases_lt, cond_both}
 use Rattle.frame.specs.Frames.{owner_at, owns, mine, owned, run, window, theta}
+
+pub mine_small : (k : ℕ) (o : Option ℕ) → mine k o ≤ 1
+mine_small k o = cond_both (owns k o) 1 0 (λ n. n ≤ 1) (λ _. omega arith) (λ _. omega arith)
 
 module _ (k : ℕ) (os : List (Option ℕ)) where
   -- the first slot, and those behind it
@@ -26,6 +30,14 @@ module _ (k : ℕ) (os : List (Option ℕ)) where
       let u : t + 1 + a ≡ t + suc a = omega arith in
       omega (arith, ap (window k os t) s, window_first t (a + b), window_first t a, window-add (t + 1) a b, ap (λ j. window k os j b) u)
 
+  -- from place i of the first round to its end
+  round-rest : (i w : ℕ) → i + w ≡ length os → window k os i w ≡ owned k (drop i os)
+  round-rest i zero e = sym (at_drop_all (owned k) os i (omega (arith, e)))
+  round-rest i (suc w) e =
+      let l : i < length os = omega (arith, e) in
+      let here : mine k (owner_at os i) ≡ mine k (get_or os i None) = ap (λ j. mine k (get_or os j None)) (mod-eq_of_lt l) in
+      omega (arith, window_first i w, here, round-rest (i + 1) w (omega (arith, e)), sum_by-drop_more (mine k) os i None l)
+
   -- one slot on, the run of a whole round loses one slot and gains its like
   round-shift : (t : ℕ) → window k os (t + 1) (length os) ≡ window k os t (length os)
   round-shift t =
@@ -37,7 +49,7 @@ module _ (k : ℕ) (os : List (Option ℕ)) where
       omega (arith, a, b, c, ap (mine k) same)
 
   pub round_owned : (t : ℕ) → window k os t (length os) ≡ owned k os
-  round_owned zero = ap (owned k) (sym (fill_by_all (owner_at os) os (length os) None refl (λ i l. ap (λ j. get_or os j None) (sym (mod-eq_of_lt l)))))
+  round_owned zero = round-rest 0 (length os) (omega arith)
   round_owned (suc t) = ap (λ j. window k os j (length os)) (let z : suc t ≡ t + 1 = omega arith in z) ∙ round-shift t ∙ round_owned t
 
   -- within one round all but θ slots are the client's

@@ -1,14 +1,16 @@
 ghost use Rattle.std.specs.Prelude.{◌≡◌, ◌≤◌, [], ◌∷◌, length};
 ghost use Rattle.std.specs.List.{list_all};
+ghost use Rattle.tables.specs.Tables.{listed};
 
-use arrayvec::ArrayVec;
 use clients::booking::BookingRefusal;
+use tables::Table;
 
-/// The owners of a frame's slots, in order: at least one, each a client or none.
-#[derive(Drop)]
+/// The owners of a frame's slots, in order: 1 to 256, each a client or none.
+#[derive(Clone, Copy)]
 pub struct Frame {
-    owners: ArrayVec<Option<u8>, 256>,
-    ghost some: { 1 ≤ length owners.items },
+    owners: Table<Option<u8>, 256>,
+    ghost some: { 1 ≤ length (listed owners) },
+    ghost most: { length (listed owners) ≤ 256 },
 }
 
 impl Frame {
@@ -18,9 +20,12 @@ impl Frame {
     pub(crate) fn new() -> Frame
         ensures { owners_in result ≡ None ∷ [] }
     {
-        let mut owners = ArrayVec::new();
-        owners.push(None);
-        Frame { owners }
+        Frame {
+            owners: Table {
+                items: [None; 256],
+                count: 1,
+            },
+        }
     }
 
     // How many slots it has.
@@ -28,7 +33,7 @@ impl Frame {
         ensures value { result ≡ length (owners_in self.now) }
         ensures fits { result ≤ 256 }
     {
-        self.owners.len()
+        self.owners.count
     }
 
     // The owner of a slot: the frame goes round.
@@ -36,7 +41,7 @@ impl Frame {
         ensures { result ≡ owner_at (owners_in self.now) slot }
     {
         // `usize` has no `From<u32>`
-        self.owners[slot as usize % self.owners.len()]
+        self.owners.items[slot as usize % self.owners.count]
     }
 
     // The slots of the frame that the client owns.
@@ -44,6 +49,7 @@ impl Frame {
         ensures { result ≡ owned_by client (owners_in self.now) }
     {
         self.owners
+            .as_slice()
             .iter()
             .filter(|owner| **owner == Some(client))
             .count()
@@ -67,11 +73,16 @@ impl TryFrom<&[Option<u8>]> for Frame {
 
     ghost try_from_gives = { λ owners r. IsFrameOf owners.now r };
 
+    // The length is told first, so a row that is too long is not gone through.
     fn try_from(owners: &[Option<u8>]) -> Result<Frame, BookingRefusal> {
-        if owners.is_empty() || !Frame::all_known(owners) {
+        if owners.is_empty() || owners.len() > 256 || !Frame::all_known(owners) {
             return Err(BookingRefusal::Range);
         }
-        let owners = ArrayVec::try_from(owners).map_err(|_| BookingRefusal::Range)?;
-        Ok(Frame { owners })
+        let count = owners.len();
+        let mut items = [None; 256];
+        items[..count].copy_from_slice(owners);
+        Ok(Frame {
+            owners: Table { items, count },
+        })
     }
 }
