@@ -1,12 +1,10 @@
 -- What is reserved keeps within the ring total and its ranges, and opens as a sound ring.
-use Rattle.std.proofs.Common.{◌≡◌, ℕ, ◌+◌, ◌-◌, ◌*◌, ◌/◌, ◌<◌, ◌≤◌, min, Bool, true, false, cond, ◌&&◌, eqb, ltb, leb, ◌≢◌, List, length, get_or, [], ◌∷◌, ◌++◌, Ok, Err, Result, OnOk, OnErr, sym, refl, ap, ◌∙◌, subst, ⊎_elim, mul-le-mul_right, mul-le-mul, mul-le-mul_left, arith, le-ltb, lt-ltb, eqb-true, leb-true}
+use Rattle.std.proofs.Common.{◌≡◌, ℕ, ◌+◌, ◌-◌, ◌*◌, ◌/◌, ◌<◌, ◌≤◌, min, Bool, true, false, cond, ◌&&◌, eqb, ltb, leb, ◌≢◌, List, length, get_or, set, take, Ok, Err, Result, sym, refl, ap, ◌∙◌, subst, ⊎_elim, mul-le-mul_right, mul-le-mul, mul-le-mul_left, arith, le-ltb, lt-ltb, eqb-true, leb-true}
 use mathlib.Core.Path.{fun_ext}
 use native.Mathlib.Nat.{le_of_mul-le-mul_left}
 use borrow.Author.Tests.{eqb-false, clash}
-use Rattle.std.proofs.Math.ListN.{get_or-append, get_or-map}
-use Rattle.std.proofs.lemmas.List.{length-append}
-use Rattle.arrayvec.specs.ArrayVec.{ArrayVec}
-use Rattle.std.proofs.Math.Seq.{get_or-append_seam}
+use Rattle.std.proofs.Math.ListN.{get_or-map}
+use Rattle.std.proofs.lemmas.List.{length-take, get_or-take, get_or-set_same, get_or-set_other}
 use Rattle.std.proofs.lemmas.Bool.{and_parts, cases_eq, cases_lt}
 use Rattle.server.specs.declared.rate.Rate.{Rate}
 use Rattle.server.specs.declared.rate.Terms.{Terms}
@@ -22,7 +20,6 @@ use Rattle.ring.specs.declared.shares.Share.{Share as Reserved}
 use Rattle.ring.specs.declared.shares.Shares.{Shares}
 use Rattle.ring.specs.declared.turns.Place.{Place}
 use Rattle.ring.specs.declared.turns.Ring.{Ring}
-use Rattle.ring.specs.declared.booking.RingBooking.{RingBooking}
 use Rattle.ring.specs.Sums.{sum}
 use Rattle.ring.specs.Shares.{count_in, no_share, share_in, rate_in, quantum_in, quantum_ok, carries, Carried, theta, terms_in}
 use Rattle.ring.specs.Turns.{place_of, quantum_of, deficit_of}
@@ -35,57 +32,38 @@ use Rattle.ring.specs.Pacing.{resting}
 
 -- ## One more
 
-module _ (b : RingBooking) (x : Rate) (quantum : ℕ) where
-  abbrev old : Shares
-  old = b.shares
-
+module _ (s : Shares) (x : Rate) (quantum : ℕ) (full : length s.reserved ≡ 8) (few : s.count < 8) where
   abbrev share : Reserved
   share = record { rate = x; quantum = quantum }
 
   abbrev more : Shares
-  more = record { total = old.total; reserved = record { items = old.reserved.items ++ (share ∷ []) } }
+  more = record { total = s.total; count = s.count + 1; reserved = set s.reserved s.count share }
 
-  share-new : share_in more (count_in old) ≡ share
-  share-new = get_or-append_seam old.reserved.items share [] no_share
+  share-new : share_in more s.count ≡ share
+  share-new = get_or-set_same s.reserved s.count share no_share (omega (arith, full))
 
-  share-old : (k : ℕ) → k < count_in old → share_in more k ≡ share_in old k
-  share-old k l = get_or-append old.reserved.items (share ∷ []) no_share k l
+  share-old : (k : ℕ) → k ≢ s.count → share_in more k ≡ share_in s k
+  share-old k n = get_or-set_other s.reserved s.count k share no_share n
 
-  within-more : sum (count_in old) (quantum_in old) + quantum ≤ old.total → sum (count_in old + 1) (quantum_in more) ≤ old.total
-  within-more h =
-      let new : quantum_in more (count_in old) ≡ quantum = ap (λ (y : Reserved). y.quantum) share-new in
+  pub within_more : sum s.count (quantum_in s) + quantum ≤ s.total → sum (s.count + 1) (quantum_in more) ≤ s.total
+  within_more h =
+      let new : quantum_in more s.count ≡ quantum = ap (λ (y : Reserved). y.quantum) share-new in
       omega (
         arith,
-        sum_more (count_in old) (quantum_in more),
+        sum_more s.count (quantum_in more),
         new,
-        sum_le (count_in old) (quantum_in more) (quantum_in old) (λ j l. omega (arith, ap (λ (y : Reserved). y.quantum) (share-old j l))),
+        sum_le s.count (quantum_in more) (quantum_in s) (λ j l. omega (arith, ap (λ (y : Reserved). y.quantum) (share-old j (λ z. omega arith)))),
       )
 
   -- `Carried`, of a share
   abbrev Carries : Reserved → Type 0
-  Carries y = (rate_ok y.rate ≡ true) × (quantum_ok y.quantum ≡ true) × (carries old.total y.rate y.quantum ≡ true)
+  Carries y = (rate_ok y.rate ≡ true) × (quantum_ok y.quantum ≡ true) × (carries s.total y.rate y.quantum ≡ true)
 
-  carried-more : Carries share → (k : ℕ) → k < count_in old + 1 → Carried more k
-  carried-more h k l = ⊎_elim
-      (λ (e : k ≡ count_in old). subst (Carried more) (sym e) (subst Carries (sym share-new) h))
-      (λ n. let low : k < count_in old = omega (arith, l, n) in subst Carries (sym (share-old k low)) (b.carried k low))
-      (cases_eq k (count_in old))
-
-  abbrev Fits : Shares → Type 0
-  Fits y = (sum (count_in y) (quantum_in y) ≤ old.total) × ((k : ℕ) → k < count_in y → Carried y k)
-
-  -- the share is pushed where there is room for it, and else nothing changes
-  module _ {E : Type 0} (after : ArrayVec Reserved) where
-    pub fits_after : (r : Result (Unit {0}) E) → OnOk r (after.items ≡ old.reserved.items ++ (share ∷ [])) → OnErr r (after ≡ old.reserved)
-        → sum (count_in old) (quantum_in old) + quantum ≤ old.total → Carries share → Fits (record { total = old.total; reserved = after })
-    fits_after (Ok _) e _ h c =
-        let f : List Reserved → Shares = λ ys. record { total = old.total; reserved = record { items = ys } } in
-        let long : count_in more ≡ count_in old + 1 = length-append old.reserved.items (share ∷ []) in
-        subst (λ (ys : List Reserved). Fits (f ys)) (sym e) (
-          subst (λ (n : ℕ). sum n (quantum_in more) ≤ old.total) (sym long) (within-more h),
-          subst (λ (n : ℕ). (k : ℕ) → k < n → Carried more k) (sym long) (carried-more c),
-        )
-    fits_after (Err _) _ e _ _ = subst (λ (v : ArrayVec Reserved). Fits (record { total = old.total; reserved = v })) (sym e) (b.within, b.carried)
+  pub carried_more : rate_ok x ≡ true → quantum_ok quantum ≡ true → carries s.total x quantum ≡ true → ((k : ℕ) → k < s.count → Carried s k) → (k : ℕ) → k < s.count + 1 → Carried more k
+  carried_more r q c h k l = ⊎_elim
+      (λ (e : k ≡ s.count). subst (Carried more) (sym e) (subst Carries (sym share-new) (r, q, c)))
+      (λ n. subst Carries (sym (share-old k n)) (h k (omega (arith, l, n))))
+      (cases_eq k s.count)
 
 -- ## The latency
 
@@ -167,18 +145,15 @@ module _ (s : Shares) (within : sum (count_in s) (quantum_in s) ≤ s.total) (ca
           same n' = ⊎_elim (λ (l : k < n). lt-ltb k n l ∙ sym (lt-ltb k (n + 1) (omega arith))) (λ g. le-ltb k n g ∙ sym (le-ltb k (n + 1) (omega (arith, g, n')))) (cases_lt k n)
 
   -- the share that comes in next, as a loop over the reserved finds it
-  module _ (xs : List Reserved) (list : (xs ≡ s.reserved.items) × (length xs ≤ 8)) (n : ℕ) (l : n < length xs) where
+  module _ (few : count_in s ≤ 8) (xs : List Reserved) (list : xs ≡ take (count_in s) s.reserved) (n : ℕ) (l : n < length xs) where
     abbrev next : Reserved
     next = get_or xs n no_share
 
     low : n < count_in s
-    low = omega (arith, l, ap (λ (ys : List Reserved). length ys) list.0)
-
-    few : count_in s ≤ 8
-    few = omega (arith, list.1, ap (λ (ys : List Reserved). length ys) list.0)
+    low = omega (arith, l, ap (λ (ys : List Reserved). length ys) list, length-take (count_in s) s.reserved)
 
     next-is : next ≡ share_in s n
-    next-is = ap (λ (ys : List Reserved). get_or ys n no_share) list.0
+    next-is = ap (λ (ys : List Reserved). get_or ys n no_share) list ∙ get_or-take (count_in s) s.reserved n no_share low
 
     pub next_ranged : (16 ≤ next.quantum) × (next.quantum ≤ s.total)
     next_ranged = let q = quantum_ranged n low in subst (λ (y : Reserved). (16 ≤ y.quantum) × (y.quantum ≤ s.total)) (sym next-is) (q.0, q.2)
@@ -210,7 +185,7 @@ module _ (s : Shares) (within : sum (count_in s) (quantum_in s) ≤ s.total) (ca
   r₀ = fresh_ring s
 
   place-first : (k : ℕ) → place_of r₀ k ≡ fresh_place (share_in s k)
-  place-first k = get_or-map fresh_place s.reserved.items k no_share
+  place-first k = get_or-map fresh_place s.reserved k no_share
 
   quantum-first : (k : ℕ) → quantum_of r₀ k ≡ quantum_in s k
   quantum-first k = ap (λ (p : Place). p.quantum) (place-first k)

@@ -32,6 +32,9 @@ next_is K t = by_test (ltb (t + 1) K)
     (λ b. ((t + 1 < K) × (cond b (t + 1) 0 ≡ t + 1)) ⊎ ((K ≤ t + 1) × (cond b (t + 1) 0 ≡ 0)))
     (λ e. inl (ltb-true (t + 1) K e, refl)) (λ e. inr (ltb-false (t + 1) K e, refl))
 
+pub next_small : (K t : ℕ) → K ≤ 8 → next_of K t < 8
+next_small K t h = omega (arith, next_is K t)
+
 module _ (K t : ℕ) (h : t < K) where
   next-lt : next_of K t < K
   next-lt = omega (arith, next_is K t)
@@ -93,6 +96,15 @@ module _ (K : ℕ) (has : ℕ → Bool) where
       (λ e. record { low = next-lt K t h; there = e; first = λ j i w. omega (arith, ahead-next K t h) })
       (λ e. passed n t h e (seek K has n (next_of K (next_of K t))) (finds n (next_of K t) (next-lt K t h)))
 
+pub seek_passes : (K : ℕ) (has : ℕ → Bool) (n c : ℕ) → 0 < n → has c ≡ false → seek K has n c ≡ seek K has (n - 1) (next_of K c)
+seek_passes K has zero c some e = absurd (omega arith)
+seek_passes K has (suc n) c some e =
+    ap (λ (b : Bool). cond {A = Option ℕ} b (Some c) (seek K has n (next_of K c))) e ∙ ap (λ (k : ℕ). seek K has k (next_of K c)) (let z : n ≡ suc n - 1 = omega arith in z)
+
+pub seek_stops : (K : ℕ) (has : ℕ → Bool) (n c : ℕ) → 0 < n → has c ≡ true → seek K has n c ≡ Some c
+seek_stops K has zero c some e = absurd (omega arith)
+seek_stops K has (suc n) c some e = ap (λ (b : Bool). cond {A = Option ℕ} b (Some c) (seek K has n (next_of K c))) e
+
 -- ## Who has had a turn before whom
 
 module _ (K t : ℕ) (h : t < K) where
@@ -115,7 +127,7 @@ waits_none m c l e = ⊎_elim (λ (w : 0 < length (m.client c).waiting). absurd 
 
 -- ## A slot
 
-module _ (m : Meaning) (r : Ring) (kept : Kept m) (full : length r.places.items ≡ m.count) (fits : sum m.count (quantum_of r) ≤ r.total) where
+module _ (m : Meaning) (r : Ring) (kept : Kept m) (full : length r.places ≡ 8) (fits : sum m.count (quantum_of r) ≤ r.total) where
   -- a unit of the open turn's client
   round-gave : stands_open r.turn ≡ true → Paced m r (gone_round m.count (client_of r.turn)) → Paced (served_to (client_of r.turn) m) (turn_to r (client_of r.turn) (rest_of (client_of r.turn) (deficit_of r (client_of r.turn)) (m.client (client_of r.turn)).waiting)) (gone_round m.count (client_of r.turn))
   round-gave o P =
@@ -166,12 +178,12 @@ turn_known m r s c = by_test (stands_open r.turn)
     subst (λ (k : ℕ). (k < m.count) × (0 < length (m.client k).waiting)) z (l, ((s.paced.each (client_of r.turn) l).inside (mine_yes r (client_of r.turn) o refl)).0))
     (λ o e. waits_parts m c (subst (Found m.count (waits m) m.count (client_of r.turn)) e (searched m r s)).there)
 
-turn_again : (r : Ring) (u : ℕ) (x y : Rest) → u < length r.places.items → turn_to (turn_to r u x) u y ≡ turn_to r u y
-turn_again r u x y l =
-    let f : List Place → Ring = λ ps. record { total = r.total; places = record { items = ps }; turn = y.turn } in
+turn_again : (r : Ring) (u : ℕ) (x y : Rest) → turn_to (turn_to r u x) u y ≡ turn_to r u y
+turn_again r u x y =
+    let f : List Place → Ring = λ ps. record { total = r.total; places = ps; turn = y.turn } in
     let p : ℕ → Place = λ q. record { quantum = q; deficit = y.deficit } in
-    ap f (set-set r.places.items u (record { quantum = quantum_of r u; deficit = x.deficit }) (p (quantum_of (turn_to r u x) u)))
-    ∙ ap (λ (q : ℕ → ℕ). f (set r.places.items u (p (q u)))) (quanta_kept r u x l)
+    ap f (set-set r.places u (record { quantum = quantum_of r u; deficit = x.deficit }) (p (quantum_of (turn_to r u x) u)))
+    ∙ ap (λ (q : ℕ → ℕ). f (set r.places u (p (q u)))) (quanta_kept r u x)
 
 leaves_none : (m : Meaning) → m.now < 4294967295 → slot_leaves m None ≡ ticked m
 leaves_none m early = ap (λ (b : Bool). cond {A = Meaning} b (ticked m) m) (lt-ltb m.now 4294967295 early)
@@ -193,7 +205,7 @@ turned_sound m r c d bs l P =
 sound_is : {m m' : Meaning} {r r' : Ring} → m ≡ m' → r ≡ r' → Sound m r → Sound m' r'
 sound_is {m} {m'} {r} {r'} e f s = subst (λ (x : Ring). Sound m' x) f (subst (λ (x : Meaning). Sound x r) e s)
 
-module _ (m : Meaning) (r : Ring) (kept : Kept m) (full : length r.places.items ≡ m.count) (fits : sum m.count (quantum_of r) ≤ r.total) (early : m.now < 4294967295) (s : Sound m r) where
+module _ (m : Meaning) (r : Ring) (kept : Kept m) (full : length r.places ≡ 8) (fits : sum m.count (quantum_of r) ≤ r.total) (early : m.now < 4294967295) (s : Sound m r) where
   sound-open : stands_open r.turn ≡ true → Sound (slot_leaves m (Some (client_of r.turn))) (ring_after m r (Some (client_of r.turn)))
   sound-open o =
       let l = s.paced.there o in
@@ -213,16 +225,15 @@ module _ (m : Meaning) (r : Ring) (kept : Kept m) (full : length r.places.items 
       let w = (waits_parts m u f.there).1 in
       let begun : Rest = record { deficit = deficit_of r u + quantum_of r u - length_of (front_of (m.client u).waiting); turn = Open u } in
       let opened : Ring = turn_to r u begun in
-      let there : u < length r.places.items = omega (arith, full, f.low) in
-      let fits' : sum m.count (quantum_of opened) ≤ r.total = subst (λ (q : ℕ → ℕ). sum m.count q ≤ r.total) (sym (quanta_kept r u begun there)) fits in
+      let fits' : sum m.count (quantum_of opened) ≤ r.total = subst (λ (q : ℕ → ℕ). sum m.count q ≤ r.total) (sym (quanta_kept r u begun)) fits in
       let P = round-opened m r kept full fits closed (s.within (omega (arith, f.low))) s.paced u f in
       let x : Sound (served_to u m) (turn_to opened u (rest_of u (deficit_of opened u) (m.client u).waiting)) =
       turned_sound (served_to u m) opened u (deficit_of opened u) (m.client u).waiting f.low
-      (round-gave m opened kept (length-set r.places.items u (record { quantum = quantum_of r u; deficit = begun.deficit }) ∙ full) fits' refl P) in
-      let here : deficit_of opened u ≡ begun.deficit = deficit_here r u begun there in
+      (round-gave m opened kept (length-set r.places u (record { quantum = quantum_of r u; deficit = begun.deficit }) ∙ full) fits' refl P) in
+      let here : deficit_of opened u ≡ begun.deficit = deficit_here r u begun (omega (arith, kept.eight, full, f.low)) in
       let same : begun.deficit ≡ begun_with m r u = ap (λ (b : Bool). cond b (deficit_of r u) (deficit_of r u + quantum_of r u - length_of (front_of (m.client u).waiting))) (sym closed) in
       sound_is (sym (leaves_served m u early f.low w))
-      (ap (λ (d : ℕ). turn_to opened u (rest_of u d (m.client u).waiting)) (here ∙ same) ∙ turn_again r u begun (rest_of u (begun_with m r u) (m.client u).waiting) there)
+      (ap (λ (d : ℕ). turn_to opened u (rest_of u d (m.client u).waiting)) (here ∙ same) ∙ turn_again r u begun (rest_of u (begun_with m r u) (m.client u).waiting))
       x
 
   -- and so does a slot

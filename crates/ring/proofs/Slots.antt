@@ -12,13 +12,11 @@ use Rattle.server.specs.Laws.{Each, Shaped}
 use Rattle.server.specs.Calls.{SlotAnswer, Slotted, gone, served, serve, one_less, served_to, granted, submitted, at, entered}
 use Rattle.server.proofs.Meanings.{at_here}
 use Rattle.clients.specs.Held.{Kept}
-use Rattle.clients.specs.Meant.{meaning}
 use Rattle.clients.specs.Serving.{front_of, front_at, served_client, gives, goes_on, slot_says, slot_leaves}
 use Rattle.clients.proofs.Kept.{slot_slotted}
 use Rattle.ring.specs.declared.turns.Ring.{Ring}
 use Rattle.ring.specs.declared.turns.Rest.{Rest}
 use Rattle.ring.specs.declared.turns.Turn.TheVariants.{Open}
-use Rattle.ring.specs.declared.ring_server.RingServer.{RingServer}
 use Rattle.ring.specs.Turns.{quantum_of, deficit_of, stands_open, client_of, turn_in, length_of, begun_with, next_rest, rest_of, rest_read, turn_to, ring_after}
 use Rattle.ring.specs.Sums.{sum}
 use Rattle.ring.specs.Paced.{Share, mine}
@@ -114,7 +112,20 @@ front_small : (bs : List Block) → Each Shaped bs → length_of (front_of bs) �
 front_small [] h = omega arith
 front_small (b ∷ bs) h = h.0.few
 
--- ## The ring after a slot
+module _ (m : Meaning) (r : Ring) (kept : ∥ Kept m ∥₁) (s : ∥ Sound m r ∥₁) (c : ℕ) (turn : Some c ≡ turn_in m r) where
+  pub begun_small : deficit_of r c + quantum_of r c < 2 ^ 32
+  begun_small = ∥∥₁_elim s le_prop (λ h. let d = deficit_small m r h c (turn_low m r s c turn) in omega (arith, d.0, d.2))
+
+  pub begun_enough : (units : ℕ) → units ≡ length_of (front_at m c) → units ≤ deficit_of r c + quantum_of r c
+  begun_enough units e = ∥∥₁_elim s le_prop (λ h. ∥∥₁_elim kept le_prop (λ k.
+      let l = turn_low m r s c turn in
+      let f : units ≡ length_of (front_of (m.client c).waiting) = e ∙ ap length_of (front_known m c l) in
+      omega (arith, f, front_small (m.client c).waiting (k.each c l).shaped, (deficit_small m r h c l).1)))
+
+  pub turn_eight : c < 8
+  turn_eight = ∥∥₁_elim kept le_prop (λ k. omega (arith, k.eight, turn_low m r s c turn))
+
+-- ## The state after a slot
 
 -- the ring after a slot for this client, refused or not
 abbrev pub next_ring : Meaning → Ring → Option ℕ → Ring
@@ -129,96 +140,81 @@ refused_ring m r who e = by_test (ltb m.now 4294967295)
     (λ _ f. let z : ◌≡◌ {A = ℕ} 0 1 = cc in absurd (omega arith))
     (λ _ _. refl)
 
+-- the ring that the code leaves, from what it found
+pub served_ring : (m : Meaning) (r : Ring) → ∥ Sound m r ∥₁ → (c : ℕ) → Some c ≡ turn_in m r → (units begun : ℕ) (went : Served) (m' : Meaning) (next : Option Block) (rest : Rest) → units ≡ length_of (front_at m c)
+    → begun ≡ cond (stands_open r.turn) (deficit_of r c) (deficit_of r c + quantum_of r c - units) → Ok went ≡ slot_says m (Some c) → m' ≡ slot_leaves m (Some c) → next ≡ front_at m' c → rest ≡ rest_read c begun went next
+    → turn_to r c rest ≡ next_ring m r (Some c)
+served_ring m r s c turn units begun went m' next rest u b w e n f =
+    ap (turn_to r c) (rest-is m r s c turn units begun went m' next rest u b w e n f)
+    ∙ ap (λ (b : Bool). cond {A = Ring} b (ring_after m r (Some c)) r) (sym (lt-ltb m.now 4294967295 (not_ended m (Some c) went w)))
+
 -- what a server in service keeps of its clients and its ring
 pub record InService (m : Meaning) (r : Ring) : Type 0 where
-  pub full : length r.places.items ≡ m.count
+  pub full : length r.places ≡ 8
   pub placed : client_of r.turn < 8
   pub within : sum m.count (quantum_of r) ≤ r.total
   pub sound : ∥ Sound m r ∥₁
 
--- ## A server
+module _ (m : Meaning) (r : Ring) (who : Option ℕ) (turn : who ≡ turn_in m r) (m' : Meaning) (r' : Ring) (after : m' ≡ slot_leaves m who) (ring : r' ≡ next_ring m r who) where
+  -- what a slot promises of its answer and of the state that it leaves
+  pub slot_is : (answer : SlotAnswer) → ∥ Kept m ∥₁ → answer ≡ slot_says m who
+      → Slotted m answer m' × ((answer ≡ slot_says m (turn_in m r)) × (◌≡◌ {A = State} (record { clients = m'; ring = r' }) (record { clients = slot_leaves m (turn_in m r); ring = next_ring m r (turn_in m r) })))
+  slot_is answer kept says =
+      let s : Meaning → Ring → State = λ n x. record { clients = n; ring = x } in (
+        subst (λ (x : SlotAnswer). Slotted m x m') (sym says) (subst (Slotted m (slot_says m who)) (sym after) (slot_slotted m who (∥∥₁_elim kept le_prop (λ k. k.counted)))),
+        (
+          says ∙ ap (slot_says m) turn,
+          ap (λ (n : Meaning). s n r') (after ∙ ap (slot_leaves m) turn) ∙ ap (s (slot_leaves m (turn_in m r))) (ring ∙ ap (next_ring m r) turn),
+        ),
+      )
 
-module _ (x : RingServer) where
-  abbrev m : Meaning
-  m = meaning x.clients
+  sound-after : Kept m → length r.places ≡ 8 → sum m.count (quantum_of r) ≤ r.total → Sound m r → Sound m' r'
+  sound-after kept full fits s = subst (λ (x : Ring). Sound m' x) (sym ring) (subst (λ (n : Meaning). Sound n (next_ring m r who)) (sym after) (by_test (ltb m.now 4294967295)
+      (λ b. Sound (cond {A = Meaning} b (goes_on m (served_client m who)) m) (cond {A = Ring} b (ring_after m r who) r))
+      (λ e. by_turn (ltb-true m.now 4294967295 e) e)
+      (λ _. s)))
+    where
+      by_turn : m.now < 4294967295 → ltb m.now 4294967295 ≡ true → Sound (goes_on m (served_client m who)) (ring_after m r who)
+      by_turn early e =
+          let x : Sound (slot_leaves m who) (ring_after m r who) = subst (λ (o : Option ℕ). Sound (slot_leaves m o) (ring_after m r o)) (sym turn) (sound_slot m r kept full fits early s) in
+          subst (λ (n : Meaning). Sound n (ring_after m r who)) (ap (λ (b : Bool). cond {A = Meaning} b (goes_on m (served_client m who)) m) e) x
 
-  abbrev r : Ring
-  r = x.ring
+  pub slot_sound : ∥ Kept m ∥₁ → length r.places ≡ 8 → sum m.count (quantum_of r) ≤ r.total → ∥ Sound m r ∥₁ → ∥ Sound m' r' ∥₁
+  slot_sound kept full fits s = ∥∥₁_map₂ kept s (λ k h. sound-after k full fits h)
 
-  module _ (c : ℕ) (turn : Some c ≡ turn_in m r) where
-    low : c < m.count
-    low = turn_low m r x.sound c turn
+  -- the quanta stay within the total
+  pub slot_within : sum m.count (quantum_of r) ≤ r.total → sum m'.count (quantum_of r) ≤ r.total
+  slot_within h = subst (λ (k : ℕ). sum k (quantum_of r) ≤ r.total) (sym (ap (λ (n : Meaning). n.count) after ∙ leaves_count m who)) h
 
-    -- whose turn it is has a place
-    pub has_place : c < length r.places.items
-    has_place = omega (arith, x.full, low)
+  -- a slot leaves the number of places, their quanta and the total, and a client's turn
+  record Stays (y : Ring) : Type 0 where
+    long : length y.places ≡ length r.places
+    total : y.total ≡ r.total
+    quanta : quantum_of y ≡ quantum_of r
+    placed : ∥ Kept m ∥₁ → ∥ Sound m r ∥₁ → client_of r.turn < 8 → client_of y.turn < 8
 
-    eight : c < 8
-    eight = ∥∥₁_elim x.clients.kept le_prop (λ k. omega (arith, k.eight, low))
+  stays_idle : Stays r
+  stays_idle = record { long = refl; total = refl; quanta = refl; placed = λ _ _ l. l }
 
-    pub begun_fits : (units : ℕ) → units ≡ length_of (front_at m c) → (deficit_of r c + quantum_of r c < 2 ^ 32) × (units ≤ deficit_of r c + quantum_of r c)
-    begun_fits units e = (
-      ∥∥₁_elim x.sound le_prop (λ h. let d = deficit_small m r h c low in omega (arith, d.0, d.2)),
-      ∥∥₁_elim x.sound le_prop (λ h. ∥∥₁_elim x.clients.kept le_prop (λ k.
-          let f : units ≡ length_of (front_of (m.client c).waiting) = e ∙ ap length_of (front_known m c low) in
-          omega (arith, f, front_small (m.client c).waiting (k.each c low).shaped, (deficit_small m r h c low).1))),
-    )
+  stays_after : (o : Option ℕ) → o ≡ turn_in m r → Stays (ring_after m r o)
+  stays_after None e = stays_idle
+  stays_after (Some c) e =
+      let rest = rest_of c (begun_with m r c) (m.client c).waiting in
+      record {
+        long = length-set r.places c (record { quantum = quantum_of r c; deficit = rest.deficit });
+        total = refl;
+        quanta = quanta_kept r c rest;
+        placed = λ k s _. subst (λ (n : ℕ). n < 8) (sym (rest_client c (begun_with m r c) (m.client c).waiting)) (turn_eight m r k s c e);
+      }
 
-    -- the ring that the code leaves, from what it found
-    pub served_ring : (units begun : ℕ) (went : Served) (m' : Meaning) (next : Option Block) (rest : Rest) → units ≡ length_of (front_at m c)
-        → begun ≡ cond (stands_open r.turn) (deficit_of r c) (deficit_of r c + quantum_of r c - units) → Ok went ≡ slot_says m (Some c) → m' ≡ slot_leaves m (Some c) → next ≡ front_at m' c → rest ≡ rest_read c begun went next
-        → turn_to r c rest ≡ next_ring m r (Some c)
-    served_ring units begun went m' next rest u b w e n f =
-        ap (turn_to r c) (rest-is m r x.sound c turn units begun went m' next rest u b w e n f)
-        ∙ ap (λ (b : Bool). cond {A = Ring} b (ring_after m r (Some c)) r) (sym (lt-ltb m.now 4294967295 (not_ended m (Some c) went w)))
+  stays : Stays r'
+  stays = subst Stays (sym ring) (by_test (ltb m.now 4294967295) (λ b. Stays (cond {A = Ring} b (ring_after m r who) r)) (λ _. stays_after who turn) (λ _. stays_idle))
 
-  module _ (who : Option ℕ) (turn : who ≡ turn_in m r) (m' : Meaning) (r' : Ring) (after : m' ≡ slot_leaves m who) (ring : r' ≡ next_ring m r who) where
-    -- what a slot promises of its answer and of the state that it leaves
-    pub slot_is : (answer : SlotAnswer) → answer ≡ slot_says m who
-        → Slotted m answer m' × ((answer ≡ slot_says m (turn_in m r)) × (◌≡◌ {A = State} (record { clients = m'; ring = r' }) (record { clients = slot_leaves m (turn_in m r); ring = next_ring m r (turn_in m r) })))
-    slot_is answer says =
-        let s : Meaning → Ring → State = λ n y. record { clients = n; ring = y } in (
-          subst (λ (a : SlotAnswer). Slotted m a m') (sym says) (subst (Slotted m (slot_says m who)) (sym after) (slot_slotted m who (∥∥₁_elim x.clients.kept le_prop (λ k. k.counted)))),
-          (
-            says ∙ ap (slot_says m) turn,
-            ap (λ (n : Meaning). s n r') (after ∙ ap (slot_leaves m) turn) ∙ ap (s (slot_leaves m (turn_in m r))) (ring ∙ ap (next_ring m r) turn),
-          ),
-        )
-
-    sound-after : Kept m → Sound m r → Sound m' r'
-    sound-after kept s = subst (λ (y : Ring). Sound m' y) (sym ring) (subst (λ (n : Meaning). Sound n (next_ring m r who)) (sym after) (by_test (ltb m.now 4294967295)
-        (λ b. Sound (cond {A = Meaning} b (goes_on m (served_client m who)) m) (cond {A = Ring} b (ring_after m r who) r))
-        (λ e. by_turn (ltb-true m.now 4294967295 e) e)
-        (λ _. s)))
-      where
-        by_turn : m.now < 4294967295 → ltb m.now 4294967295 ≡ true → Sound (goes_on m (served_client m who)) (ring_after m r who)
-        by_turn early e =
-            let y : Sound (slot_leaves m who) (ring_after m r who) = subst (λ (o : Option ℕ). Sound (slot_leaves m o) (ring_after m r o)) (sym turn) (sound_slot m r kept x.full x.within early s) in
-            subst (λ (n : Meaning). Sound n (ring_after m r who)) (ap (λ (b : Bool). cond {A = Meaning} b (goes_on m (served_client m who)) m) e) y
-
-    -- a turn leaves the places, their quanta and the total
-    abbrev Stays : Ring → Type 0
-    Stays y = (length y.places.items ≡ m.count) × (client_of y.turn < 8) × (sum m.count (quantum_of y) ≤ y.total)
-
-    stays_after : (o : Option ℕ) → o ≡ turn_in m r → Stays (ring_after m r o)
-    stays_after None e = (x.full, x.placed, x.within)
-    stays_after (Some c) e =
-        let rest = rest_of c (begun_with m r c) (m.client c).waiting in (
-          length-set r.places.items c (record { quantum = quantum_of r c; deficit = rest.deficit }) ∙ x.full,
-          subst (λ (k : ℕ). k < 8) (sym (rest_client c (begun_with m r c) (m.client c).waiting)) (eight c e),
-          subst (λ (q : ℕ → ℕ). sum m.count q ≤ r.total) (sym (quanta_kept r c rest (has_place c e))) x.within,
-        )
-
-    stays : Stays r'
-    stays = subst Stays (sym ring) (by_test (ltb m.now 4294967295) (λ b. Stays (cond {A = Ring} b (ring_after m r who) r)) (λ _. stays_after who turn) (λ _. (x.full, x.placed, x.within)))
-
-    -- after a slot it is in service as before
-    pub in_service : InService m' r'
-    in_service =
-        let count : m.count ≡ m'.count = sym (ap (λ (n : Meaning). n.count) after ∙ leaves_count m who) in
-        record {
-          full = stays.0 ∙ count;
-          placed = stays.1;
-          within = subst (λ (k : ℕ). sum k (quantum_of r') ≤ r'.total) count stays.2;
-          sound = ∥∥₁_map₂ x.clients.kept x.sound sound-after;
-        }
+  -- after a slot it is in service as before
+  pub in_service : ∥ Kept m ∥₁ → InService m r → InService m' r'
+  in_service kept h = record {
+    full = stays.long ∙ h.full;
+    placed = stays.placed kept h.sound h.placed;
+    within = subst (λ (n : ℕ). sum m'.count (quantum_of r') ≤ n) (sym stays.total) (subst (λ (q : ℕ → ℕ). sum m'.count q ≤ r.total) (sym stays.quanta) (slot_within h.within));
+    sound = slot_sound kept h.full h.within h.sound;
+  }

@@ -20,6 +20,10 @@ use Rattle.ring.specs.SumsLemmas.{by_test}
 
 -- ## Rows of blocks
 
+whole_behind : (bs : List Block) → Whole bs → WholeBehind bs
+whole_behind [] h = tt
+whole_behind (b ∷ bs) h = h.1
+
 behind_push : (bs : List Block) (b : Block) → b.left ≡ b.length → WholeBehind bs → WholeBehind (bs ++ (b ∷ []))
 behind_push [] b e h = tt
 behind_push (x ∷ xs) b e h = each_push (λ b. b.left ≡ b.length) xs b h e

@@ -1,8 +1,9 @@
 -- A submission, a turn that opens and a unit that goes keep a ring's clients on time, whoever has had a turn before whom.
-use Rattle.std.specs.Prelude.{◌≡◌, ℕ, ◌+◌, ◌-◌, ◌*◌, ◌<◌, ◌≤◌, Bool, true, false, cond, ◌&&◌, ◌≢◌, List, length, ◌==◌, refl}
+use Rattle.std.specs.Prelude.{◌≡◌, ℕ, ◌+◌, ◌-◌, ◌*◌, ◌<◌, ◌≤◌, Bool, true, false, cond, ◌&&◌, ◌≢◌, List, length, ◌==◌, slice_index_or, refl}
 use Rattle.std.proofs.Common.{sym, ap, subst, ◌∙◌, ⊎_elim, arith, eqb-true, eq-eqb, ne_eqb}
 use mathlib.Core.Path.{fun_ext}
 use Rattle.std.proofs.lemmas.List.{get_or-set_same, get_or-set_other}
+use Rattle.std.proofs.Math.Seq.{set_out}
 use Rattle.std.proofs.lemmas.Bool.{and_parts, cases_lt, cases_eq}
 use Rattle.server.specs.declared.block.Block.{Block}
 use Rattle.server.specs.Meaning.{Client, Meaning}
@@ -190,28 +191,34 @@ module _ (r : Ring) (t : ℕ) (x : Rest) where
   abbrev moved : Place
   moved = record { quantum = quantum_of r t; deficit = x.deficit }
 
-  place-here : t < length r.places.items → place_of (turn_to r t x) t ≡ moved
-  place-here l = get_or-set_same r.places.items t moved no_place l
+  place-here : t < length r.places → place_of (turn_to r t x) t ≡ moved
+  place-here l = get_or-set_same r.places t moved no_place l
 
   place-there : (k : ℕ) → k ≢ t → place_of (turn_to r t x) k ≡ place_of r k
-  place-there k n = get_or-set_other r.places.items t k moved no_place n
+  place-there k n = get_or-set_other r.places t k moved no_place n
 
-  pub deficit_here : t < length r.places.items → deficit_of (turn_to r t x) t ≡ x.deficit
+  pub deficit_here : t < length r.places → deficit_of (turn_to r t x) t ≡ x.deficit
   deficit_here l = ap (λ (p : Place). p.deficit) (place-here l)
 
   deficit-there : (k : ℕ) → k ≢ t → deficit_of (turn_to r t x) k ≡ deficit_of r k
   deficit-there k n = ap (λ (p : Place). p.deficit) (place-there k n)
 
+  quantum-here : quantum_of (turn_to r t x) t ≡ quantum_of r t
+  quantum-here = ⊎_elim
+      (λ (l : t < length r.places). ap (λ (p : Place). p.quantum) (place-here l))
+      (λ l. ap (λ (ps : List Place). (slice_index_or ps t no_place).quantum) (set_out r.places t moved l))
+      (cases_lt t (length r.places))
+
   -- the quanta stay
-  pub quanta_kept : t < length r.places.items → quantum_of (turn_to r t x) ≡ quantum_of r
-  quanta_kept l = fun_ext (λ k. ⊎_elim
-      (λ (e : k ≡ t). subst (λ (j : ℕ). quantum_of (turn_to r t x) j ≡ quantum_of r j) (sym e) (ap (λ (p : Place). p.quantum) (place-here l)))
+  pub quanta_kept : quantum_of (turn_to r t x) ≡ quantum_of r
+  quanta_kept = fun_ext (λ k. ⊎_elim
+      (λ (e : k ≡ t). subst (λ (j : ℕ). quantum_of (turn_to r t x) j ≡ quantum_of r j) (sym e) quantum-here)
       (λ n. ap (λ (p : Place). p.quantum) (place-there k n))
       (cases_eq k t))
 
 -- ## A turn opens
 
-module _ (m : Meaning) (r : Ring) (gone gone' : ℕ → ℕ → Bool) (kept : Kept m) (full : length r.places.items ≡ m.count) (fits : sum m.count (quantum_of r) ≤ r.total) (P : Paced m r gone)
+module _ (m : Meaning) (r : Ring) (gone gone' : ℕ → ℕ → Bool) (kept : Kept m) (full : length r.places ≡ 8) (fits : sum m.count (quantum_of r) ≤ r.total) (P : Paced m r gone)
     (t : ℕ) (closed : stands_open r.turn ≡ false) (l : t < m.count) (some : 0 < length (m.client t).waiting)
     (own' : (j : ℕ) → j < m.count → j ≢ t → gone' t j ≡ false)
     (seen' : (c : ℕ) → c < m.count → c ≢ t → gone' c t ≡ true)
@@ -224,10 +231,10 @@ module _ (m : Meaning) (r : Ring) (gone gone' : ℕ → ℕ → Bool) (kept : Ke
   opened = turn_to r t begun
 
   here : deficit_of opened t ≡ begun.deficit
-  here = deficit_here r t begun (omega (arith, full))
+  here = deficit_here r t begun (omega (arith, kept.eight, full))
 
   same-quanta : quantum_of opened ≡ quantum_of r
-  same-quanta = quanta_kept r t begun (omega (arith, full))
+  same-quanta = quanta_kept r t begun
 
   was : (k : ℕ) → k < m.count → Share m.count r.total (quantum_of r k) (deficit_of r k) false (m.client k)
   was k i = share_is refl (mine_closed r k closed) (P.each k i)
@@ -279,7 +286,7 @@ module _ (m : Meaning) (r : Ring) (gone gone' : ℕ → ℕ → Bool) (kept : Ke
 
 -- ## A unit goes
 
-module _ (m : Meaning) (r : Ring) (gone gone' : ℕ → ℕ → Bool) (kept : Kept m) (full : length r.places.items ≡ m.count) (fits : sum m.count (quantum_of r) ≤ r.total) (P : Paced m r gone)
+module _ (m : Meaning) (r : Ring) (gone gone' : ℕ → ℕ → Bool) (kept : Kept m) (full : length r.places ≡ 8) (fits : sum m.count (quantum_of r) ≤ r.total) (P : Paced m r gone)
     (opened : stands_open r.turn ≡ true)
     (own' : stands_open (rest_of (client_of r.turn) (deficit_of r (client_of r.turn)) (m.client (client_of r.turn)).waiting).turn ≡ true → (j : ℕ) → j < m.count → j ≢ client_of r.turn → gone' (client_of r.turn) j ≡ false)
     (seen' : stands_open (rest_of (client_of r.turn) (deficit_of r (client_of r.turn)) (m.client (client_of r.turn)).waiting).turn ≡ true → (c : ℕ) → c < m.count → c ≢ client_of r.turn → gone' c (client_of r.turn) ≡ true)
@@ -300,7 +307,7 @@ module _ (m : Meaning) (r : Ring) (gone gone' : ℕ → ℕ → Bool) (kept : Ke
   l = P.there opened
 
   gave-here : deficit_of gave t ≡ rest.deficit
-  gave-here = deficit_here r t rest (omega (arith, full, l))
+  gave-here = deficit_here r t rest (omega (arith, kept.eight, full, l))
 
   gave-turn : client_of gave.turn ≡ t
   gave-turn = rest_client t (deficit_of r t) (m.client t).waiting
@@ -315,7 +322,7 @@ module _ (m : Meaning) (r : Ring) (gone gone' : ℕ → ℕ → Bool) (kept : Ke
   seen-gave = subst (λ (k : ℕ). stands_open rest.turn ≡ true → (c : ℕ) → c < m.count → c ≢ k → gone' c k ≡ true) (sym gave-turn) seen'
 
   gave-quanta : quantum_of gave ≡ quantum_of r
-  gave-quanta = quanta_kept r t rest (omega (arith, full, l))
+  gave-quanta = quanta_kept r t rest
 
   is_open : Share m.count r.total (quantum_of r t) (deficit_of r t) true (m.client t)
   is_open = share_is refl (mine_yes r t opened refl) (P.each t l)

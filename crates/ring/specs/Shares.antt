@@ -1,5 +1,5 @@
 -- What is reserved in a ring, and how late a share of it can make a client. Assumes nothing.
-use Rattle.std.specs.Prelude.{◌≡◌, ℕ, ◌+◌, ◌-◌, ◌*◌, ◌/◌, Bool, true, ◌&&◌, length, nat_le, nat_lt, slice_index_or}
+use Rattle.std.specs.Prelude.{◌≡◌, ℕ, ◌+◌, ◌-◌, ◌*◌, ◌/◌, Bool, true, ◌&&◌, nat_le, nat_lt, slice_index_or}
 use Rattle.server.specs.declared.rate.Rate.{Rate}
 use Rattle.server.specs.declared.rate.Terms.{Terms}
 use Rattle.clients.specs.Held.{latency_for}
@@ -10,7 +10,7 @@ use Rattle.ring.specs.Sums.{sum}
 
 -- the number of clients reserved so far
 abbrev pub count_in : Shares → ℕ
-count_in s = length s.reserved.items
+count_in s = s.count
 
 -- what nobody reserved
 abbrev pub no_share : Share
@@ -18,7 +18,7 @@ no_share = record { rate = record { p = 0; q = 0 }; quantum = 0 }
 
 -- what the client at place k reserved
 abbrev pub share_in : Shares → ℕ → Share
-share_in s k = slice_index_or s.reserved.items k no_share
+share_in s k = slice_index_or s.reserved k no_share
 
 -- the rate and the quantum at place k
 abbrev pub rate_in : Shares → ℕ → Rate

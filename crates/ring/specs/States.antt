@@ -1,5 +1,5 @@
 -- The ring's booking and server as functions of their state. Assumes nothing.
-use Rattle.std.specs.Prelude.{ℕ, ◌-◌, cond, ◌&&◌, [], ◌∷◌, ◌++◌, map, Ok, Err, Result, nat_lt}
+use Rattle.std.specs.Prelude.{ℕ, ◌+◌, ◌-◌, cond, ◌&&◌, map, replicate, Ok, Err, Result, nat_lt, slice_set}
 use Rattle.server.specs.declared.rate.Rate.{Rate}
 use Rattle.server.specs.Meaning.{Meaning}
 use Rattle.server.specs.Calls.{submitted}
@@ -16,7 +16,7 @@ use Rattle.ring.specs.declared.turns.Ring.{Ring}
 use Rattle.ring.specs.declared.turns.Turn.TheVariants.{Closed}
 use Rattle.ring.specs.declared.booking.RingBooking.{RingBooking}
 use Rattle.ring.specs.declared.ring_server.RingServer.{RingServer}
-use Rattle.ring.specs.Shares.{total_ok, quantum_ok, carries, room, count_in, terms_in}
+use Rattle.ring.specs.Shares.{total_ok, quantum_ok, carries, room, count_in, no_share, terms_in}
 use Rattle.ring.specs.Turns.{turn_in, ring_after}
 
 -- the clients, and the ring with its turn
@@ -37,14 +37,14 @@ Answer = Result (Unit {0}) BookingRefusal
 
 -- a new booking: a total of 16, and nobody reserved
 abbrev pub fresh : Shares
-fresh = record { total = 16; reserved = record { items = [] } }
+fresh = record { total = 16; count = 0; reserved = replicate 8 no_share }
 
 -- setting the total: refused once a client is reserved, or where it is out of range
 abbrev pub total_says : Shares → ℕ → Answer
 total_says s total = cond (nat_lt 0 (count_in s)) (Err Reserved) (cond (total_ok total) (Ok tt) (Err Range))
 
 abbrev pub total_set : Shares → ℕ → Shares
-total_set s total = cond (nat_lt 0 (count_in s)) s (cond (total_ok total) (record { total = total; reserved = s.reserved }) s)
+total_set s total = cond (nat_lt 0 (count_in s)) s (cond (total_ok total) (record { total = total; count = s.count; reserved = s.reserved }) s)
 
 -- reserving the next client: the first cause that holds
 abbrev pub reserve_says : Shares → Rate → ℕ → Answer
@@ -61,7 +61,7 @@ reserve_says s x quantum =
 abbrev pub reserved : Shares → Rate → ℕ → Shares
 reserved s x quantum =
     cond (rate_ok x && (quantum_ok quantum && (carries s.total x quantum && room s quantum)))
-    (record { total = s.total; reserved = record { items = s.reserved.items ++ (record { rate = x; quantum = quantum } ∷ []) } })
+    (record { total = s.total; count = s.count + 1; reserved = slice_set s.reserved s.count (record { rate = x; quantum = quantum }) })
     s
 
 -- ## Opening
@@ -78,7 +78,7 @@ fresh_place x = record { quantum = x.quantum; deficit = 0 }
 abbrev pub fresh_ring : Shares → Ring
 fresh_ring s = record {
   total = s.total;
-  places = record { items = map fresh_place s.reserved.items };
+  places = map fresh_place s.reserved;
   turn = Closed (count_in s - 1);
 }
 

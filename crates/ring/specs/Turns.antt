@@ -17,7 +17,7 @@ no_place = record { quantum = 0; deficit = 0 }
 
 -- the place of client k
 abbrev pub place_of : Ring → ℕ → Place
-place_of r k = slice_index_or r.places.items k no_place
+place_of r k = slice_index_or r.places k no_place
 
 -- the quantum and the deficit of client k
 abbrev pub quantum_of : Ring → ℕ → ℕ
@@ -82,7 +82,7 @@ rest_read c d Nothing next = record { deficit = d; turn = Closed c }
 abbrev pub turn_to : Ring → ℕ → Rest → Ring
 turn_to r c x = record {
   total = r.total;
-  places = record { items = slice_set r.places.items c (record { quantum = quantum_of r c; deficit = x.deficit }) };
+  places = slice_set r.places c (record { quantum = quantum_of r c; deficit = x.deficit });
   turn = x.turn;
 }
 

@@ -1,4 +1,4 @@
-ghost use Rattle.std.specs.Prelude.{ℕ, ◌<◌, ◌≤◌};
+ghost use Rattle.std.specs.Prelude.{◌≡◌, ℕ, ◌<◌, ◌≤◌, length};
 ghost use Rattle.ring.specs.Sums.{sum};
 ghost use Rattle.ring.specs.Shares.{count_in, quantum_in, Carried};
 
@@ -9,6 +9,8 @@ use crate::shares::Shares;
 #[derive(Drop)]
 pub struct RingBooking {
     pub(crate) shares: Shares,
+    ghost full: { length shares.reserved ≡ 8 },
+    ghost few: { shares.count ≤ 8 },
     ghost least: { 16 ≤ shares.total },
     ghost most: { shares.total ≤ 8192 },
     ghost within: { sum (count_in shares) (quantum_in shares) ≤ shares.total },

@@ -1,4 +1,4 @@
-ghost use Rattle.std.specs.Prelude.{◌≡◌, ◌≤◌};
+ghost use Rattle.std.specs.Prelude.{◌≡◌, ◌≤◌, length, take};
 ghost use Rattle.server.specs.Laws.{Unused};
 ghost use Rattle.clients.specs.Meant.{meaning};
 ghost use Rattle.ring.specs.Sums.{sum};
@@ -9,7 +9,6 @@ use crate::booking::RingBooking;
 use crate::ring_server::RingServer;
 use crate::shares::{Share, Shares};
 use crate::turns::{Place, Ring, Turn};
-use arrayvec::ArrayVec;
 use clients::booking::BookingRefusal;
 use clients::table::Clients;
 use clients::ticks::{rate_in_range, terms_of};
@@ -30,39 +29,6 @@ fn quantum_in_range(quantum: u32) -> bool
     (16..=1024).contains(&quantum)
 }
 
-impl Shares {
-    // The quanta reserved so far, together.
-    fn used(&self) -> u64
-        ensures { result ≡ sum (count_in self.now) (quantum_in self.now) }
-    {
-        self.reserved
-            .iter()
-            .map(|share| u64::from(share.quantum))
-            .sum()
-    }
-
-    // The ring as it opens: a place for each client, and the turn closed at the last of them.
-    fn fresh_ring(&self) -> Ring
-        ensures { result ≡ fresh_ring self.now }
-    {
-        // A loop, since `extend` would answer that the places may not fit, which would have to be shown of an
-        // iterator in place of one place.
-        let mut places = ArrayVec::new();
-        for share in self.reserved.iter() {
-            places.push(Place {
-                quantum: share.quantum,
-                deficit: 0,
-            });
-        }
-        Ring {
-            total: self.total,
-            places,
-            // At most eight are reserved.
-            turn: Turn::Closed(self.reserved.len().saturating_sub(1) as u8),
-        }
-    }
-}
-
 impl RingBooking {
     /// A ring total of 16, and no clients. No `Default` can be derived of a type with ghost fields.
     pub fn new() -> RingBooking
@@ -71,7 +37,8 @@ impl RingBooking {
         RingBooking {
             shares: Shares {
                 total: 16,
-                reserved: ArrayVec::new(),
+                count: 0,
+                reserved: [Share::default(); 8],
             },
         }
     }
@@ -81,7 +48,7 @@ impl RingBooking {
         ensures answers { result ≡ total_says (booked_in self.old) total }
         ensures leaves { booked_in self.new ≡ total_set (booked_in self.old) total }
     {
-        if !self.shares.reserved.is_empty() {
+        if self.shares.count > 0 {
             return Err(BookingRefusal::Reserved);
         }
         if !total_in_range(total) {
@@ -106,13 +73,14 @@ impl RingBooking {
         if asked > u64::from(quantum) * u64::from(rate.q) {
             return Err(BookingRefusal::Share);
         }
-        if self.shares.used() + u64::from(quantum) > u64::from(self.shares.total) {
+        if self.shares.count >= 8
+            || self.used() + u64::from(quantum) > u64::from(self.shares.total)
+        {
             return Err(BookingRefusal::Over);
         }
-        self.shares
-            .reserved
-            .try_push(Share { rate, quantum })
-            .map_err(|_full| BookingRefusal::Over)
+        self.shares.reserved[usize::from(self.shares.count)] = Share { rate, quantum };
+        self.shares.count += 1;
+        Ok(())
     }
 
     /// Opens the booking for service, and uses it up.
@@ -122,8 +90,42 @@ impl RingBooking {
     {
         RingServer {
             clients: self.admitted(),
-            ring: self.shares.fresh_ring(),
+            ring: self.fresh_ring(),
         }
+    }
+
+    // The ring as it opens: a place for each client, and the turn closed at the last of them.
+    fn fresh_ring(&self) -> Ring
+        ensures { result ≡ fresh_ring (booked_in self.now) }
+    {
+        let shares = &self.shares;
+        Ring {
+            total: shares.total,
+            places: shares.reserved.map(|share| Place {
+                quantum: share.quantum,
+                deficit: 0,
+            }),
+            turn: Turn::Closed(shares.count.saturating_sub(1)),
+        }
+    }
+
+    // What the clients reserved so far, in their order.
+    fn reserved(&self) -> &[Share]
+        ensures are { result.now ≡ take (count_in (booked_in self.now)) (booked_in self.now).reserved }
+        ensures few { length result.now ≤ 8 }
+    {
+        let places = &self.shares.reserved[..];
+        &places[..usize::from(self.shares.count)]
+    }
+
+    // The quanta reserved so far, together.
+    fn used(&self) -> u64
+        ensures { result ≡ sum (count_in (booked_in self.now)) (quantum_in (booked_in self.now)) }
+    {
+        self.reserved()
+            .iter()
+            .map(|share| u64::from(share.quantum))
+            .sum()
     }
 
     // The slots by which a client of this quantum may be late.
@@ -134,8 +136,7 @@ impl RingBooking {
     {
         let shares = &self.shares;
         let turns = (shares.total - quantum) * (quantum + 15);
-        // At most eight are reserved.
-        let others = shares.reserved.len().saturating_sub(1) as u32;
+        let others = u32::from(shares.count.saturating_sub(1));
         turns.div_ceil(quantum) + others * 15
     }
 
@@ -144,7 +145,7 @@ impl RingBooking {
         ensures { meaning result ≡ first_clients (booked_in self.now) (count_in (booked_in self.now)) }
     {
         let mut clients = Clients::new();
-        for share in self.shares.reserved.iter() {
+        for share in self.reserved() {
             let terms = terms_of(share.rate, self.theta(share.quantum));
             // what a booking keeps leaves no cause to turn a client away
             clients.admit(terms).unwrap();

@@ -14,7 +14,7 @@ use clients::table::Clients;
 pub struct RingServer {
     pub(crate) clients: Clients,
     pub(crate) ring: Ring,
-    ghost full: { length ring.places.items ≡ (meaning clients).count },
+    ghost full: { length ring.places ≡ 8 },
     ghost placed: { client_of ring.turn < 8 },
     ghost within: { sum (meaning clients).count (quantum_of ring) ≤ ring.total },
     ghost sound: { ∥ Sound (meaning clients) ring ∥₁ },

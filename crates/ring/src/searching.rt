@@ -14,10 +14,9 @@ impl RingServer {
         ensures { let m = meaning self.now.clients in result ≡ seek m.count (waits m) m.count (next_of m.count last) }
     {
         let count = self.clients.count();
-        // The clients behind it, and then all: those behind it once more have no block, or were found. A range that
-        // ends at `last` would have to be shown to stay within the clients.
+        // The clients behind it, and then those up to it, so that each is asked once.
         (last + 1..count)
-            .chain(0..count)
+            .chain(0..count.min(last + 1))
             .find(|client| self.clients.waits(*client))
     }
 }
@@ -58,8 +57,10 @@ impl Ring {
     pub(crate) fn turn_to(&mut self, client: u8, rest: Rest)
         ensures { self.new ≡ turn_to self.old client rest }
     {
-        if let Some(place) = self.places.get_mut(usize::from(client)) {
-            place.deficit = rest.deficit;
+        let place = usize::from(client);
+        // `get_mut` of a slice says nothing of what the slice ends as.
+        if place < self.places.len() {
+            self.places[place].deficit = rest.deficit;
         }
         self.turn = rest.turn;
     }

@@ -1,4 +1,3 @@
-use arrayvec::ArrayVec;
 use server::rate::Rate;
 
 /// What a client reserves: its rate, and the quantum that a turn of it adds.
@@ -8,9 +7,10 @@ pub struct Share {
     pub(crate) quantum: u32,
 }
 
-/// The ring total, and what the clients reserved so far, in their order.
-#[derive(Drop)]
+/// The ring total, and what the clients reserved so far, in their order: the first `count` of eight places.
+#[derive(Clone, Copy)]
 pub struct Shares {
     pub(crate) total: u32,
-    pub(crate) reserved: ArrayVec<Share, 8>,
+    pub(crate) count: u8,
+    pub(crate) reserved: [Share; 8],
 }

@@ -1,5 +1,3 @@
-use arrayvec::ArrayVec;
-
 /// A client's place in the ring: the units that a turn of it adds, and those left of its turns so far.
 #[derive(Clone, Copy, PartialEq, Eq, Default, Debug)]
 pub struct Place {
@@ -14,11 +12,12 @@ pub enum Turn {
     Closed(u8),
 }
 
-/// The ring total, the clients' places in their order, and the turn.
-#[derive(Drop)]
+/// The ring total, the clients' places in their order, and the turn. A place that nobody has is a
+/// `Place::default()`.
+#[derive(Clone, Copy)]
 pub struct Ring {
     pub(crate) total: u32,
-    pub(crate) places: ArrayVec<Place, 8>,
+    pub(crate) places: [Place; 8],
     pub(crate) turn: Turn,
 }
 

@@ -1,7 +1,5 @@
 use Rattle.std.proofs.Common.{◌≡◌, ℕ, ◌-◌, ◌≤◌, length, sym, ap, ◌∙◌, subst, arith}
 use Rattle.std.proofs.lemmas.List.{length-map}
-use mathlib.Core.Logic.{∥∥₁_elim}
-use native.Mathlib.Bridge.{le_prop}
 use Rattle.server.specs.Meaning.{Meaning}
 use Rattle.server.specs.Laws.{Unused}
 use Rattle.clients.specs.Meant.{meaning}
@@ -23,8 +21,8 @@ invariant_of-result c =
     let count = sym (ap (λ (m : Meaning). m.count) clients) in
     let turn : client_of c.fresh_ring.result.turn ≡ count_in s - 1 = ap (λ (r : Ring). client_of r.turn) ring in
     record {
-      full = ap (λ (r : Ring). length r.places.items) ring ∙ length-map s.reserved.items fresh_place ∙ count;
-      placed = ∥∥₁_elim c.admitted.result.kept le_prop (λ k. omega (arith, k.eight, count, turn));
+      full = ap (λ (r : Ring). length r.places) ring ∙ length-map s.reserved fresh_place ∙ b.full;
+      placed = omega (arith, turn, b.few);
       within = subst (λ (r : Ring). sum (meaning c.admitted.result).count (quantum_of r) ≤ r.total) (sym ring)
           (subst (λ (n : ℕ). sum n (quantum_of (fresh_ring s)) ≤ s.total) count (within_first s b.within b.carried));
       sound = ∣ subst (λ (r : Ring). Sound (meaning c.admitted.result) r) (sym ring) (subst (λ (m : Meaning). Sound m (fresh_ring s)) (sym clients) (sound_first s b.within b.carried)) ∣₁;

@@ -18,8 +18,8 @@ returns c =
     ∙ find_from_yields_List has _ _ c.find.result c.find.ensures.ran
     (YieldsList-from_chain
     (YieldsList-from_range (t + 1) count (count - (t + 1)) (cc) refl)
-    (YieldsList-from_range 0 count count (cc) (omega arith))
+    (YieldsList-from_range 0 c.min.result c.min.result (cc) (omega arith))
     c.chain.ensures.first_done c.chain.ensures.second_done)
     (λ x b q k. search (rules, tests))
-    ∙ found_round count has t
+    ∙ found_round count has t c.min.result c.min.ensures
     ∙ ap (λ (n : ℕ). seek n has n (next_of n t)) c.count-count.ensures

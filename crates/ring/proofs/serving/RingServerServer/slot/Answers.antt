@@ -2,7 +2,7 @@ use Rattle.std.proofs.Common.{◌≡◌, Some, None, Ok, ap, ◌∙◌, rules}
 use Rattle.clients.specs.Meant.{meaning}
 use Rattle.clients.specs.Serving.{slot_says}
 use Rattle.ring.specs.Turns.{length_of}
-use Rattle.ring.proofs.Slots.{begun_fits, idle_ring, refused_ring, served_ring, slot_is, in_service}
+use Rattle.ring.proofs.Slots.{InService, begun_small, begun_enough, idle_ring, refused_ring, served_ring, slot_is, in_service}
 use Rattle.ring.proofs.serving.RingServerServer.slot.Goals as goal
 
 -- ## Nobody waits
@@ -10,13 +10,16 @@ use Rattle.ring.proofs.serving.RingServerServer.slot.Goals as goal
 pub invariant_of-self : goal.invariant_of-self
 invariant_of-self c =
     let x = c.args.self.now in
-    let h = in_service x None c.in_default.ensures (meaning c.slot.new.self) x.ring c.slot.ensures.leaves (idle_ring (meaning x.clients) x.ring) in
+    let m = meaning x.clients in
+    let was : InService m x.ring = record { full = x.full; placed = x.placed; within = x.within; sound = x.sound } in
+    let h = in_service m x.ring None c.in_default.ensures (meaning c.slot.new.self) x.ring c.slot.ensures.leaves (idle_ring m x.ring) x.clients.kept was in
     record { full = h.full; placed = h.placed; within = h.within; sound = h.sound }
 
 pub returns-in_default : goal.returns-in_default
 returns-in_default c =
     let x = c.args.self.now in
-    let g = slot_is x None c.in_default.ensures (meaning c.slot.new.self) x.ring c.slot.ensures.leaves (idle_ring (meaning x.clients) x.ring) c.slot.result c.slot.ensures.answers in
+    let m = meaning x.clients in
+    let g = slot_is m x.ring None c.in_default.ensures (meaning c.slot.new.self) x.ring c.slot.ensures.leaves (idle_ring m x.ring) c.slot.result x.clients.kept c.slot.ensures.answers in
     record { serves = g.0; exactly = λ _. g.1 }
 
 -- ## A client's turn
@@ -24,41 +27,48 @@ returns-in_default c =
 pub begun_with-begun-requires : goal.begun_with-begun-requires
 begun_with-begun-requires c =
     let x = c.args.self.now in
+    let m = meaning x.clients in
     let client = c.in-Some.client in
     let turn = c.in-Some.ensures in
-    let fits = begun_fits x client turn c.length_of.result (c.length_of.ensures ∙ ap length_of c.front.ensures) in
-    record { small = fits.0; enough = fits.1 }
+    record {
+      small = begun_small m x.ring x.clients.kept x.sound client turn;
+      enough = begun_enough m x.ring x.clients.kept x.sound client turn c.length_of.result (c.length_of.ensures ∙ ap length_of c.front.ensures);
+    }
 
 pub returns-in_err-served : goal.returns-in_err-served
 returns-in_err-served c =
     let x = c.args.self.now in
+    let m = meaning x.clients in
     let who = Some c.in-Some.client in
-    let answer : c.from_residual.result ≡ slot_says (meaning x.clients) (Some c.in-Some.client) = search rules in
-    let ring = refused_ring (meaning x.clients) x.ring who c.in_err-served.field-0.0 c.in_err-served.ensures.answers in
-    let g = slot_is x who c.in-Some.ensures (meaning c.slot-2.new.self) x.ring c.in_err-served.ensures.leaves ring c.from_residual.result answer in
+    let answer : c.from_residual.result ≡ slot_says m (Some c.in-Some.client) = search rules in
+    let ring = refused_ring m x.ring who c.in_err-served.field-0.0 c.in_err-served.ensures.answers in
+    let g = slot_is m x.ring who c.in-Some.ensures (meaning c.slot-2.new.self) x.ring c.in_err-served.ensures.leaves ring c.from_residual.result x.clients.kept answer in
     record { serves = g.0; exactly = λ _. g.1 }
 
 pub invariant_of-self-2 : goal.invariant_of-self-2
 invariant_of-self-2 c =
     let x = c.args.self.now in
+    let m = meaning x.clients in
     let client = c.in-Some.client in
     let turn = c.in-Some.ensures in
     let m' = meaning c.slot-2.new.self in
     let after = c.in_ok-served.ensures.leaves in
-    let ring = c.turn_to.ensures ∙ served_ring x client turn c.length_of.result c.begun_with-begun.result c.in_ok-served.served m' c.front-2.result c.rest_given-rest.result
+    let ring = c.turn_to.ensures ∙ served_ring m x.ring x.sound client turn c.length_of.result c.begun_with-begun.result c.in_ok-served.served m' c.front-2.result c.rest_given-rest.result
     (c.length_of.ensures ∙ ap length_of c.front.ensures) c.begun_with-begun.ensures c.in_ok-served.ensures.answers after c.front-2.ensures c.rest_given-rest.ensures in
-    let h = in_service x (Some client) turn m' c.turn_to.new.self after ring in
+    let was : InService m x.ring = record { full = x.full; placed = x.placed; within = x.within; sound = x.sound } in
+    let h = in_service m x.ring (Some client) turn m' c.turn_to.new.self after ring x.clients.kept was in
     record { full = h.full; placed = h.placed; within = h.within; sound = h.sound }
 
 pub returns : goal.returns
 returns c =
     let x = c.args.self.now in
+    let m = meaning x.clients in
     let client = c.in-Some.client in
     let turn = c.in-Some.ensures in
     let m' = meaning c.slot-2.new.self in
     let after = c.in_ok-served.ensures.leaves in
     let says = c.in_ok-served.ensures.answers in
-    let ring = c.turn_to.ensures ∙ served_ring x client turn c.length_of.result c.begun_with-begun.result c.in_ok-served.served m' c.front-2.result c.rest_given-rest.result
+    let ring = c.turn_to.ensures ∙ served_ring m x.ring x.sound client turn c.length_of.result c.begun_with-begun.result c.in_ok-served.served m' c.front-2.result c.rest_given-rest.result
     (c.length_of.ensures ∙ ap length_of c.front.ensures) c.begun_with-begun.ensures says after c.front-2.ensures c.rest_given-rest.ensures in
-    let g = slot_is x (Some client) turn m' c.turn_to.new.self after ring (Ok c.in_ok-served.served) says in
+    let g = slot_is m x.ring (Some client) turn m' c.turn_to.new.self after ring (Ok c.in_ok-served.served) x.clients.kept says in
     record { serves = g.0; exactly = λ _. g.1 }

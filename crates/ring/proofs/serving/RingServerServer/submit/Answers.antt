@@ -16,7 +16,7 @@ invariant_of-self c =
     let after = c.submit.ensures.leaves in
     let count : (meaning c.submit.new.self).count ≡ m.count = ap (λ (n : Meaning). n.count) after ∙ submitted_count m c.args.client c.args.label c.args.length in
     record {
-      full = x.full ∙ sym count;
+      full = x.full;
       placed = x.placed;
       within = subst (λ (k : ℕ). sum k (quantum_of x.ring) ≤ x.ring.total) (sym count) x.within;
       sound = ∥∥₁_map x.sound (λ h. subst (λ (n : Meaning). Sound n x.ring) (sym after) (sound_submitted m x.ring c.args.client c.args.label c.args.length h));
