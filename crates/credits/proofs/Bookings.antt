@@ -1,7 +1,8 @@
 -- A reservation: what it answers and leaves, and that the balance is kept.
-use Rattle.std.proofs.Common.{◌≡◌, ℕ, ◌+◌, ◌-◌, ◌*◌, ◌<◌, ◌≤◌, min, Bool, true, false, cond, ◌&&◌, ltb, List, [], ◌∷◌, ◌++◌, length, Ok, Err, Result, sym, refl, ap, ◌∙◌, subst, arith, ltb-true, le-ltb, le-leb, leb-true}
+use Rattle.std.proofs.Common.{◌≡◌, ℕ, ◌+◌, ◌-◌, ◌*◌, ◌^◌, ◌<◌, ◌≤◌, min, Bool, true, false, cond, ◌&&◌, ltb, List, [], ◌∷◌, ◌++◌, take, set, Ok, Err, Result, sym, refl, ap, ◌∙◌, subst, arith, ltb-true, le-ltb, le-leb, leb-true}
 use mathlib.Core.Logic.{∥∥₁_map}
 use Rattle.std.specs.Int.{div_ceil}
+use Rattle.std.proofs.lemmas.List.{take_more_set}
 use Rattle.std.proofs.lemmas.Bool.{and_parts}
 use Rattle.std.proofs.lemmas.Bool.Decides.{nat_tests}
 use Rattle.server.specs.declared.rate.Rate.{Rate}
@@ -9,6 +10,7 @@ use Rattle.server.specs.declared.rate.Terms.{Terms}
 use Rattle.server.specs.Meaning.{Meaning}
 use Rattle.server.specs.Calls.{at}
 use Rattle.server.specs.Laws.{Unused}
+use Rattle.tables.specs.Tables.{listed}
 use Rattle.clients.specs.declared.booking.BookingRefusal.{BookingRefusal}
 use Rattle.clients.specs.declared.booking.BookingRefusal.TheVariants.{Rate as BadRate, Range, Share as SmallShare, Over}
 use Rattle.clients.specs.declared.booking.NotAdmitted.{NotAdmitted}
@@ -19,7 +21,7 @@ use Rattle.clients.specs.Serving.{rate_ok, terms_ok, admits, admission, admitted
 use Rattle.clients.proofs.Kept.{rate_ranged, ranged_terms, terms_whole, admits_full, unused_admitted}
 use Rattle.credits.specs.declared.credit_server.CreditServer.{CreditServer}
 use Rattle.credits.specs.declared.shares.Share.{Share}
-use Rattle.credits.specs.Shares.{steps, caps}
+use Rattle.credits.specs.Shares.{steps, caps, theta}
 use Rattle.credits.specs.Balanced.{Carried, Balanced}
 use Rattle.credits.specs.States.{State, Answer, state_of, share_ok, carries, room_for, next_terms, terms_say, reserve_says, reserved}
 use Rattle.credits.specs.Numbers.{theta_ceil, latency_small}
@@ -49,10 +51,10 @@ declined m v e h = by (admits m v) h
     by true g = cc
     by false g = refl
 
-taken : (m : Meaning) (v : Terms) (u : Unit {0}) → Ok u ≡ admission m v → admits m v ≡ true
-taken m v u h = by (admits m v) h
+pub admits_taken : (m : Meaning) (v : Terms) (u : Unit {0}) → Ok u ≡ admission m v → true ≡ admits m v
+admits_taken m v u h = by (admits m v) h
   where
-    by : (d : Bool) → Ok u ≡ cond {A = Result (Unit {0}) NotAdmitted} d (Ok tt) (Err record {}) → d ≡ true
+    by : (d : Bool) → Ok u ≡ cond {A = Result (Unit {0}) NotAdmitted} d (Ok tt) (Err record {}) → true ≡ d
     by true g = refl
     by false g = cc
 
@@ -63,7 +65,7 @@ pub record Passes (x : CreditServer) (rate : Rate) (n c : ℕ) : Type 0 where
   pub rated : rate_ok rate ≡ true
   pub ranged : share_ok x.denominator n c ≡ true
   pub pays : rate.p * x.denominator ≤ n * rate.q
-  pub room : n ≤ x.denominator - steps x.shares.items
+  pub room : n ≤ x.denominator - steps (listed x.shares)
 
 module _ (x : CreditServer) (rate : Rate) (n c : ℕ) where
   abbrev m : Meaning
@@ -77,9 +79,9 @@ module _ (x : CreditServer) (rate : Rate) (n c : ℕ) where
     latency_fits =
         let r = rate_ranged rate h.rated in
         let g = share_ranged x.denominator n c h.ranged in
-        latency_small x.denominator rate.p rate.q n (x.denominator - steps x.shares.items) (caps x.shares.items) x.some g.0 h.room r.1 r.2 h.pays (caps_small x)
+        latency_small x.denominator rate.p rate.q n (x.denominator - steps (listed x.shares)) (caps (listed x.shares)) x.some g.0 h.room r.1 r.2 h.pays (caps_small x)
 
-    carried : Carried x.denominator (x.denominator - steps x.shares.items) (caps x.shares.items) (next_terms (state_of x) rate) n c
+    carried : Carried x.denominator (x.denominator - steps (listed x.shares)) (caps (listed x.shares)) (next_terms (state_of x) rate) n c
     carried = let g = share_ranged x.denominator n c h.ranged in record { some = g.0; room = h.room; pays = h.pays; high = g.2; top = g.3; late = refl }
 
     terms_fit : terms_ok (next_terms (state_of x) rate) ≡ true
@@ -89,7 +91,7 @@ module _ (x : CreditServer) (rate : Rate) (n c : ℕ) where
     carries_it = le-leb (rate.p * x.denominator) (n * rate.q) h.pays
 
     has_room : room_for (state_of x) n ≡ true
-    has_room = let g = share_ranged x.denominator n c h.ranged in le-leb (steps x.shares.items + n) x.denominator (omega (arith, h.room, g.0, x.room))
+    has_room = let g = share_ranged x.denominator n c h.ranged in le-leb (steps (listed x.shares) + n) x.denominator (omega (arith, h.room, g.0, x.room))
 
     terms_told : Ok (next_terms (state_of x) rate) ≡ terms_say (state_of x) rate n c
     terms_told =
@@ -99,19 +101,28 @@ module _ (x : CreditServer) (rate : Rate) (n c : ℕ) where
         let t4 : room_for (state_of x) n ≡ true = has_room in
         simp (t1, t2, t3, t4)
 
-    -- the terms as the code works them out
-    module _ (rest above θ : ℕ) (er : rest ≡ x.denominator - steps x.shares.items) (ea : above ≡ caps x.shares.items) (eθ : θ ≡ div_ceil above rest) where
-      latency_is : latency_for rate.p rate.q θ ≡ (next_terms (state_of x) rate).latency
+    -- the sums and θ that the code works out are those of the state
+    module _ (st cp θ lat : ℕ) (es : st ≡ steps (listed x.shares)) (ec : cp ≡ caps (listed x.shares)) (eθ : θ ≡ theta (x.denominator - st) cp) (el : lat ≡ latency_for rate.p rate.q θ) where
+      latency_is : lat ≡ (next_terms (state_of x) rate).latency
       latency_is =
+          el ∙ ap (latency_for rate.p rate.q) (eθ ∙ ap (λ (k : ℕ). theta (x.denominator - k) cp) es ∙ ap (theta (x.denominator - steps (listed x.shares))) ec)
+
+      pub latency_word : lat < 2 ^ 32
+      latency_word = omega (arith, latency_is, latency_fits)
+
+    -- the terms as the code works them out
+    module _ (rest above θ : ℕ) (er : rest ≡ x.denominator - steps (listed x.shares)) (ea : above ≡ caps (listed x.shares)) (eθ : θ ≡ div_ceil above rest) where
+      late_is : latency_for rate.p rate.q θ ≡ (next_terms (state_of x) rate).latency
+      late_is =
           let g = share_ranged x.denominator n c h.ranged in
-          ap (latency_for rate.p rate.q)
-          (eθ ∙ ap (div_ceil above) er ∙ ap (λ (k : ℕ). div_ceil k (x.denominator - steps x.shares.items)) ea
-          ∙ sym (theta_ceil (x.denominator - steps x.shares.items) (caps x.shares.items) (omega (arith, g.0, h.room))))
+          let some : 1 ≤ rest = omega (arith, g.0, h.room, er) in
+          latency_is (steps (listed x.shares)) above θ (latency_for rate.p rate.q θ) refl ea
+          (eθ ∙ sym (theta_ceil rest above some) ∙ ap (λ (k : ℕ). theta k above) er) refl
 
       pub told : (made : Terms) → made ≡ record { rate = rate; latency = min (latency_for rate.p rate.q θ) 4294967295 } → Ok made ≡ terms_say (state_of x) rate n c
       told made e =
-          ap (λ (t : Terms). Ok t) (e ∙ terms_whole rate (latency_for rate.p rate.q θ) (omega (arith, latency_is, latency_fits)))
-          ∙ ap (λ (k : ℕ). Ok (record { rate = rate; latency = k })) latency_is ∙ terms_told
+          ap (λ (t : Terms). Ok t) (e ∙ terms_whole rate (latency_for rate.p rate.q θ) (omega (arith, late_is, latency_fits)))
+          ∙ ap (λ (k : ℕ). Ok (record { rate = rate; latency = k })) late_is ∙ terms_told
 
     -- all tests but the last
     reserve_tests : (g : Bool) → (◌≡◌ {A = Answer} (cond g (Ok tt) (Err Over)) (cond (rate_ok rate) (cond (share_ok x.denominator n c) (cond (carries x.denominator rate n) (cond (room_for (state_of x) n && g) (Ok tt) (Err Over)) (Err SmallShare)) (Err Range)) (Err BadRate)))
@@ -134,7 +145,7 @@ module _ (x : CreditServer) (rate : Rate) (n c : ℕ) where
   grown = record { count = m.count + 1; now = m.now; client = at m.count (λ _. new_client terms) m.client }
 
   abbrev after : State
-  after = record { clients = admitted m terms; denominator = x.denominator; shares = x.shares.items ++ (share ∷ []) }
+  after = record { clients = admitted m terms; denominator = x.denominator; shares = listed x.shares ++ (share ∷ []) }
 
   -- no cause speaks against the share
   module _ (v : Terms) (e : Ok v ≡ terms_say (state_of x) rate n c) where
@@ -146,7 +157,7 @@ module _ (x : CreditServer) (rate : Rate) (n c : ℕ) where
       rated = past.0;
       ranged = past.1;
       pays = leb-true (rate.p * x.denominator) (n * rate.q) past.2;
-      room = omega (arith, leb-true (steps x.shares.items + n) x.denominator past.3);
+      room = omega (arith, leb-true (steps (listed x.shares) + n) x.denominator past.3);
     }
 
     module _ (m' : Meaning) (leaves : m' ≡ admitted (meaning x.clients) v) where
@@ -166,24 +177,46 @@ module _ (x : CreditServer) (rate : Rate) (n c : ℕ) where
           )
 
       -- the client takes the next place
-      module _ (u : Unit {0}) (says : Ok u ≡ admission (meaning x.clients) v) where
+      module _ (took : true ≡ admits (meaning x.clients) v) where
         takes : admits (meaning x.clients) (next_terms (state_of x) rate) ≡ true
-        takes = ap (admits m) (sym past.4) ∙ taken m v u says
+        takes = ap (admits m) (sym past.4) ∙ sym took
 
         free : ltb (meaning x.clients).count 8 ≡ true
         free = (and_parts (ltb m.count 8) (terms_ok terms) takes).0
 
-        pub place_free : length x.shares.items < 8
+        grows : m' ≡ grown
+        grows = joins ∙ ap (λ (d : Bool). cond {A = Meaning} d grown m) takes
+
+        pub place_free : x.shares.count < 8
         place_free = omega (arith, one_each x, ltb-true m.count 8 free)
+
+        pub taken_says : ◌≡◌ {A = Answer} (Ok tt) (reserve_says (state_of x) rate n c)
+        taken_says = ap (λ (d : Bool). cond {A = Answer} d (Ok tt) (Err Over)) (sym free) ∙ (reserve_tests passes (ltb m.count 8)).0
 
         pub taken_unused : ∥ Unused (meaning x.clients) ∥₁ → ∥ Unused m' ∥₁
         taken_unused unused = ∥∥₁_map unused (λ u. subst Unused (sym joins) (unused_admitted m terms u))
 
-        module _ (ys : List Share) (pushed : ys ≡ x.shares.items ++ (record { step = n; cap = c; credit = c } ∷ [])) where
+        module _ (ys : List Share) (pushed : ys ≡ listed x.shares ++ (record { step = n; cap = c; credit = c } ∷ [])) where
           pub taken_balanced : ∥ Balanced m' x.denominator ys ∥₁
           taken_balanced =
-              let grows : m' ≡ grown = joins ∙ ap (λ (d : Bool). cond {A = Meaning} d grown m) takes in
               ∥∥₁_map x.balanced (λ h.
               subst (λ (w : Meaning). Balanced w x.denominator ys) (sym grows)
               (subst (Balanced grown x.denominator) (sym pushed)
-              (balanced_push m x.denominator n c x.shares.items terms (carried passes) h)))
+              (balanced_push m x.denominator n c (listed x.shares) terms (carried passes) h)))
+
+        module _ (place : ℕ) (here : place ≡ (meaning x.clients).count) where
+          pub grown_count : m'.count ≡ place + 1
+          grown_count = ap (λ (w : Meaning). w.count) grows ∙ ap (λ (k : ℕ). k + 1) (sym here)
+
+          -- the share at its place, behind the others
+          pub one_more : take (place + 1) (set x.shares.items place (record { step = n; cap = c; credit = c })) ≡ listed x.shares ++ (record { step = n; cap = c; credit = c } ∷ [])
+          one_more =
+              take_more_set x.shares.items place share (omega (arith, x.shares.full, here, ltb-true m.count 8 free))
+              ∙ ap (λ (j : ℕ). take j x.shares.items ++ (share ∷ [])) (here ∙ sym (one_each x))
+
+          pub taken_leaves : ◌≡◌ {A = State} (record { clients = m'; denominator = x.denominator; shares = take m'.count (set x.shares.items place (record { step = n; cap = c; credit = c })) }) (reserved (state_of x) rate n c)
+          taken_leaves =
+              ap (λ (j : ℕ). record { clients = m'; denominator = x.denominator; shares = take j (set x.shares.items place share) }) grown_count
+              ∙ ap (λ (ys : List Share). record { clients = m'; denominator = x.denominator; shares = ys }) one_more
+              ∙ ap (λ (w : Meaning). record { clients = w; denominator = x.denominator; shares = listed x.shares ++ (share ∷ []) }) joins
+              ∙ sym (ap (λ (d : Bool). cond {A = State} d after (state_of x)) ((reserve_tests passes (ltb m.count 8)).1 ∙ free))

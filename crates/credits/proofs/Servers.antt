@@ -1,7 +1,8 @@
 -- What the type of a server says of its slot counter and its shares.
-use Rattle.std.proofs.Common.{◌≡◌, ◌*◌, ◌<◌, ◌≤◌, length, arith}
+use Rattle.std.proofs.Common.{◌≡◌, ◌*◌, ◌<◌, ◌≤◌, length, arith, length-take-le}
 use Rattle.std.proofs.Math.Logic.{∥∥₁_elim}
 use Rattle.std.proofs.Math.Bridge.{le_prop}
+use Rattle.tables.specs.Tables.{listed}
 use Rattle.clients.specs.Meant.{meaning}
 use Rattle.credits.specs.declared.credit_server.CreditServer.{CreditServer}
 use Rattle.credits.specs.Shares.{caps, Small}
@@ -15,19 +16,17 @@ module _ (x : CreditServer) where
   counted = ∥∥₁_elim x.clients.kept le_prop (λ k. k.counted)
 
   -- there is one for each client
-  pub one_each : length x.shares.items ≡ (meaning x.clients).count
+  pub one_each : x.shares.count ≡ (meaning x.clients).count
   one_each =
-      let a : length x.shares.items ≤ (meaning x.clients).count = ∥∥₁_elim x.balanced le_prop (λ h. omega (arith, h.each)) in
-      let b : (meaning x.clients).count ≤ length x.shares.items = ∥∥₁_elim x.balanced le_prop (λ h. omega (arith, h.each)) in
+      let l = length-take-le x.shares.count x.shares.items (omega (arith, x.shares.full, x.shares.few)) in
+      let a : x.shares.count ≤ (meaning x.clients).count = ∥∥₁_elim x.balanced le_prop (λ h. omega (arith, l, h.each)) in
+      let b : (meaning x.clients).count ≤ x.shares.count = ∥∥₁_elim x.balanced le_prop (λ h. omega (arith, l, h.each)) in
       omega arith
 
-  pub eight : length x.shares.items ≤ 8
-  eight = omega (arith, one_each, few)
-
   -- each credit and step fit a word together
-  pub shares_small : Small x.shares.items
-  shares_small = balanced_small (meaning x.clients) x.denominator x.shares.items x.balanced x.most few
+  pub shares_small : Small (listed x.shares)
+  shares_small = balanced_small (meaning x.clients) x.denominator (listed x.shares) x.balanced x.most few
 
   -- and so do the caps
-  pub caps_small : caps x.shares.items ≤ 512 * x.denominator
-  caps_small = balanced_caps (meaning x.clients) x.denominator x.shares.items x.balanced few
+  pub caps_small : caps (listed x.shares) ≤ 512 * x.denominator
+  caps_small = balanced_caps (meaning x.clients) x.denominator (listed x.shares) x.balanced few

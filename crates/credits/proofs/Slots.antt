@@ -1,12 +1,10 @@
 -- A slot and a submission of the server: what they answer and leave, and that the balance is kept.
-use Rattle.std.proofs.Common.{◌≡◌, ℕ, ◌<◌, ◌≤◌, Bool, true, false, cond, ltb, List, Ok, Err, Option, sym, ap, ◌∙◌, subst, ltb-true, lt-ltb}
+use Rattle.std.proofs.Common.{◌≡◌, ℕ, ◌<◌, ◌≤◌, Bool, cond, ltb, List, Option, sym, ap, ◌∙◌, subst, lt-ltb}
 use mathlib.Core.Logic.{∥∥₁_map, ∥∥₁_map₂}
-use Rattle.server.specs.declared.block.Served.{Served}
-use Rattle.server.specs.declared.refusal.Refusal.TheVariants.{Ended}
 use Rattle.server.specs.Meaning.{Meaning}
 use Rattle.server.specs.Calls.{SlotAnswer, Slotted, submitted}
 use Rattle.clients.specs.Held.{Kept}
-use Rattle.clients.specs.Serving.{gives, served_client, slot_says, slot_leaves}
+use Rattle.clients.specs.Serving.{slot_says, slot_leaves}
 use Rattle.clients.proofs.Kept.{slot_slotted}
 use Rattle.credits.specs.declared.shares.Share.{Share}
 use Rattle.credits.specs.Shares.{by_place, served, earned}
@@ -23,15 +21,8 @@ module _ (m m' : Meaning) (who : Option ℕ) (went : m' ≡ slot_leaves m who) w
   slot_serves r counted e =
       subst (λ (a : SlotAnswer). Slotted m a m') (sym e) (subst (Slotted m (slot_says m who)) (sym went) (slot_slotted m who counted))
 
-  -- a slot that is not refused, and the shares that it earns
-  module _ (s : Served) (answered : Ok s ≡ slot_says m who) (D : ℕ) (xs xs' : List Share) (chose : who ≡ served m D xs) (gained : xs' ≡ by_place (earned m D who) 0 xs) where
-    early : m.now < 4294967295
-    early = by (ltb m.now 4294967295) (λ e. ltb-true m.now 4294967295 e) answered
-      where
-        by : (d : Bool) → (d ≡ true → m.now < 4294967295) → Ok s ≡ cond {A = SlotAnswer} d (Ok (gives m (served_client m who))) (Err Ended) → m.now < 4294967295
-        by true f e = f cc
-        by false f e = f cc
-
+  -- a slot before the counter's end, and the shares that it earns
+  module _ (D : ℕ) (xs xs' : List Share) (chose : who ≡ served m D xs) (gained : xs' ≡ by_place (earned m D who) 0 xs) (early : m.now < 4294967295) where
     goes : m' ≡ slot_leaves m (served m D xs)
     goes = went ∙ ap (slot_leaves m) chose
 

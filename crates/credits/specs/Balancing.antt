@@ -233,6 +233,10 @@ balanced_submitted D m xs c label len some b = by (granted m c len)
 
 -- ## A reservation
 
+-- with no clients there is nothing to balance
+pub balanced_empty : (m : Meaning) (D : ℕ) (xs : List Share) → m.count ≡ 0 → ∥ Balanced m D (take m.count xs) ∥₁
+balanced_empty m D xs z = ∣ subst (λ (n : ℕ). Balanced m D (take n xs)) (sym z) (record { each = sym z; fit = omega arith }) ∣₁
+
 -- the same fact at sums that are the same
 fits_at : (D t : ℕ) (cs : ℕ → Client) (y : Share) (R R' H H' C C' k k' : ℕ) → R ≡ R' → H ≡ H' → C ≡ C' → k ≡ k' → Fits D t R H C (cs k) y → Fits D t R' H' C' (cs k') y
 fits_at D t cs y R R' H H' C C' k k' a b c d h =

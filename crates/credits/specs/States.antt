@@ -5,6 +5,7 @@ use Rattle.server.specs.declared.rate.Terms.{Terms}
 use Rattle.server.specs.Meaning.{Meaning}
 use Rattle.server.specs.Calls.{submitted}
 use Rattle.server.specs.Machine.{Machine}
+use Rattle.tables.specs.Tables.{listed}
 use Rattle.clients.specs.declared.booking.BookingRefusal.{BookingRefusal}
 use Rattle.clients.specs.declared.booking.BookingRefusal.TheVariants.{Reserved, Rate as BadRate, Range, Share as SmallShare, Over}
 use Rattle.clients.specs.Held.{latency_for}
@@ -23,7 +24,7 @@ pub record State : Type 0 where
 
 -- what is known of a server
 abbrev pub state_of : CreditServer → State
-state_of x = record { clients = meaning x.clients; denominator = x.denominator; shares = x.shares.items }
+state_of x = record { clients = meaning x.clients; denominator = x.denominator; shares = listed x.shares }
 
 -- and of a booking, which holds the server that it opens as
 abbrev pub booked_in : CreditBooking → State

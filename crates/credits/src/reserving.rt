@@ -1,4 +1,5 @@
 ghost use Rattle.std.specs.Prelude.{◌≡◌, ◌-◌};
+ghost use Rattle.tables.specs.Tables.{listed};
 ghost use Rattle.server.specs.Laws.{Unused};
 ghost use Rattle.credits.specs.Shares.{steps, caps as caps_of};
 ghost use Rattle.credits.specs.States.{booked_in, state_of, fresh, denominator_ok, denominator_says, denominator_set, share_ok, terms_say, reserve_says, reserved};
@@ -6,11 +7,11 @@ ghost use Rattle.credits.specs.States.{booked_in, state_of, fresh, denominator_o
 use crate::booking::CreditBooking;
 use crate::credit_server::CreditServer;
 use crate::shares::Share;
-use arrayvec::ArrayVec;
 use clients::booking::BookingRefusal;
 use clients::table::Clients;
 use clients::ticks::{rate_in_range, terms_of};
 use server::rate::{Rate, Terms};
+use tables::Table;
 
 impl CreditBooking {
     /// Denominator 1, and no clients. No `Default` can be derived of a type with ghost fields.
@@ -21,7 +22,7 @@ impl CreditBooking {
             server: CreditServer {
                 clients: Clients::new(),
                 denominator: 1,
-                shares: ArrayVec::new(),
+                shares: Table::new(Share::default()),
             },
         }
     }
@@ -55,7 +56,10 @@ impl CreditBooking {
         let terms = self.next_terms(rate, share)?;
         let server = &mut self.server;
         server.clients.admit(terms)?;
-        server.shares.push(share);
+        // There is a place for it, as there was one for the client.
+        let shares = &mut server.shares;
+        shares.items[shares.count] = share;
+        shares.count += 1;
         Ok(())
     }
 
@@ -99,17 +103,17 @@ impl CreditServer {
 
     // What the clients' steps leave of the denominator.
     fn rest(&self) -> u32
-        ensures { result ≡ self.now.denominator - steps self.now.shares.items }
+        ensures { result ≡ self.now.denominator - steps (listed self.now.shares) }
     {
-        let steps: u32 = self.shares.iter().map(|share| share.step).sum();
+        let steps: u32 = self.shares.as_slice().iter().map(|share| share.step).sum();
         self.denominator - steps
     }
 
     // The clients' caps together.
     fn caps(&self) -> u32
-        ensures { result ≡ caps_of self.now.shares.items }
+        ensures { result ≡ caps_of (listed self.now.shares) }
     {
-        self.shares.iter().map(|share| share.cap).sum()
+        self.shares.as_slice().iter().map(|share| share.cap).sum()
     }
 }
 

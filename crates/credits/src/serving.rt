@@ -1,10 +1,12 @@
 ghost use Rattle.std.proofs.Math.Logic.{∥∥₁_elim};
 ghost use Rattle.server.proofs.Props.{lawful_prop};
+ghost use Rattle.tables.specs.Tables.{listed};
 ghost use Rattle.clients.specs.Meant.{meaning};
 ghost use Rattle.credits.specs.States.{State as Credited, state_of, credit_machine};
 ghost use Rattle.credits.specs.Balancing.{balanced_lawful};
 
 use crate::credit_server::CreditServer;
+use crate::earning::earn;
 use server::block::Served;
 use server::refusal::Refusal;
 use server::server::Server;
@@ -24,7 +26,7 @@ impl Server for CreditServer {
     ghost lawful = { λ x.
         let m = meaning x.clients in
         ∥∥₁_elim x.clients.kept (lawful_prop m) (λ k. ∥∥₁_elim x.balanced (lawful_prop m) (λ h.
-        balanced_lawful x.denominator m x.some k x.shares.items h)) };
+        balanced_lawful x.denominator m x.some k (listed x.shares) h)) };
 
     // The calls but `slot` go to the table, each from here, where the invariants of this type are kept. A body
     // shared by the schedulers would need a second trait with the contracts of `Server` over again, and more text
@@ -48,10 +50,11 @@ impl Server for CreditServer {
     // The highest eligible client is served, and each client earns its step.
     #[tactic(auto, using(crate::specs::Balancing::served_pays))]
     fn slot(&mut self) -> Result<Served, Refusal> {
+        if self.clients.now() == u32::MAX {
+            return Err(Refusal::Ended);
+        }
         let who = self.served();
-        let shares = self.earned(who);
-        let served = self.clients.slot(who)?;
-        self.shares = shares;
-        Ok(served)
+        earn(&mut self.shares, &self.clients, self.denominator, who);
+        self.clients.slot(who)
     }
 }

@@ -11,4 +11,4 @@ returns c =
       pays = omega (arith, rw (c.from.ensures, c.from-2.ensures) at c.if-from-self.false);
       room = omega (arith, c.if-share-rest.false, c.rest-rest.ensures);
     })
-    c.rest-rest.result c.caps.result c.div_ceil.result c.rest-rest.ensures c.caps.ensures c.div_ceil.ensures c.terms_of.result c.terms_of.ensures
+    c.rest-rest.result c.caps.result _ c.rest-rest.ensures c.caps.ensures (omega arith) c.terms_of.result c.terms_of.ensures
