@@ -1,2 +1,3 @@
+mod EachDigit
 mod Reading
 pub mod TwoWays

@@ -1,57 +1,48 @@
--- The number of a text that is a numeral is what the library's `parse` gives, where that is not over the bound.
-use Rattle.std.proofs.Common.{◌≡◌, ℕ, ◌^◌, ◌<◌, Bool, true, false, cond, ◌&&◌, List, length, Some, None, Ok, Err, Result, MatchResult, refl, sym, ap, ◌∙◌, nat_le, subst, arith}
-use Rattle.decimal.specs.Numbers.{read_on, shaped, kept, number_of}
-use Rattle.decimal.proofs.TwoWays.{own}
+-- Each case of a text's first bytes gives its number: none for an empty text, a leading zero and a long text.
+use Rattle.std.proofs.Common.{◌≡◌, ℕ, ◌-◌, ◌<◌, ◌≤◌, true, false, cond, List, [], ◌∷◌, length, get_or, take, drop, Some, None, Option, sym, ap, ◌∙◌, arith, length-drop}
+use Rattle.decimal.specs.Numbers.{digits_on, shaped, kept, number_of}
+use Rattle.std.proofs.lemmas.List.{take_rest}
 use Rattle.std.proofs.lemmas.Bool.Decides.{nat_tests}
-use Rattle.std.proofs.lemmas.Fmt.{IsAscii-from_digits}
-use Rattle.std.proofs.lemmas.Str.{IsUtf8-from_ascii}
-use Rattle.std.proofs.lemmas.Str.Parse.{parse_digits}
-use Rattle.std.specs.Bool.{then_some}
-use Rattle.std.specs.Result.{result_ok}
-use Rattle.std.specs.Str.{IsUtf8, all_ascii_digits}
-use Rattle.std.specs.Str.Parse.{ParsesUnsigned}
 
-pub not_numeral : (most : ℕ) (ds : List ℕ) → (shaped ds && all_ascii_digits ds) ≡ false → None ≡ number_of most ds
+unshaped : (most : ℕ) (ds : List ℕ) → shaped ds ≡ false → None ≡ number_of most ds
 unfolding number_of
-not_numeral most ds e = grind (arith, nat_tests)
+unshaped most ds e = sym (ap (λ t. cond t (kept most (digits_on 0 ds)) None) e)
 
--- what holds of an answer that is there, and that one is there
-module _ {T E : Type 0} (P : T → Type 0) (Q : E → Type 0) where
-  pub of_ok : (r : Result T E) → MatchResult r P Q → (x : T) → Some x ≡ result_ok r → P x
-  of_ok (Ok y) h x e = let same : y ≡ x = cc in subst P same h
-  of_ok (Err y) h x e = absurd cc
+pub empty : (most : ℕ) (ds : List ℕ) → length ds ≡ 0 → None ≡ number_of most ds
+empty most ds e = unshaped most ds (grind (arith, nat_tests))
 
-  pub of_err : (r : Result T E) → MatchResult r P Q → None ≡ result_ok r → ((e : E) → Q e → ⊥) → ⊥
-  of_err (Ok y) h e never = cc
-  of_err (Err y) h e never = never y h
+pub leading_zero : (most : ℕ) (ds : List ℕ) → 1 < length ds → get_or ds 0 0 ≡ 48 → None ≡ number_of most ds
+leading_zero most ds l e = unshaped most ds (grind (arith, nat_tests))
 
-module _ (most : ℕ) (ds : List ℕ) (is : (shaped ds && all_ascii_digits ds) ≡ true) where
-  digits : all_ascii_digits ds ≡ true
-  digits = grind (arith, nat_tests)
+-- the rest as the code takes it
+pub too_long : (most : ℕ) (ds : List ℕ) → 9 < length (take (length ds - 1) (drop 1 ds)) → None ≡ number_of most ds
+too_long most ds l =
+    let t = ap length (take_rest ds 1) ∙ length-drop 1 ds in
+    let long : 10 < length ds = omega arith in
+    unshaped most ds (grind (arith, nat_tests))
 
-  some : 0 < length ds
-  some = grind (arith, nat_tests)
+one_zero : (most b : ℕ) → b ≡ 48 → Some 0 ≡ number_of most (b ∷ [])
+unfolding number_of
+one_zero most b e = grind (arith, nat_tests)
 
-  -- digits are text
-  pub text : IsUtf8 ds
-  text = IsUtf8-from_ascii ds (IsAscii-from_digits ds (own.to ds digits))
+pub lone_zero : (most : ℕ) (ds : List ℕ) → length ds ≡ 1 → get_or ds 0 0 ≡ 48 → Some 0 ≡ number_of most ds
+lone_zero most [] l e = absurd (omega arith)
+lone_zero most (b ∷ []) l e = one_zero most b e
+lone_zero most (b ∷ c ∷ ds) l e = absurd (omega arith)
 
-  by_value : number_of most ds ≡ kept most (Some (read_on 0 ds))
-  unfolding number_of
-  by_value = grind (arith, nat_tests)
+short : (most : ℕ) (ds : List ℕ) → shaped ds ≡ true → kept most (digits_on 0 ds) ≡ number_of most ds
+unfolding number_of
+short most ds e = sym (ap (λ t. cond t (kept most (digits_on 0 ds)) None) e)
 
-  over : most < read_on 0 ds → kept most (Some (read_on 0 ds)) ≡ None
-  over h = grind (arith, nat_tests)
+fits_shape : (b : ℕ) (bs : List ℕ) → (b ≡ 48 → ⊥) → length bs ≤ 9 → shaped (b ∷ bs) ≡ true
+fits_shape b bs z l = grind (arith, nat_tests)
 
-  pub parsed : {E : Type 0} (r : Result ℕ E) → most < 2 ^ 32 → ParsesUnsigned 32 10 ds r → kept most (result_ok r) ≡ number_of most ds
-  parsed {E} (Ok n) small h = ap (λ (n : ℕ). kept most (Some n)) (parse_digits own {E = E} 32 ds (Ok n) h digits).1 ∙ sym by_value
-  parsed (Err e) small h =
-      let high : most < read_on 0 ds = grind (arith, parse_digits own 32 ds (Err e) h digits, some) in
-      sym (by_value ∙ over high)
-
-pub kept_by : (most n : ℕ) → then_some (nat_le n most) n ≡ kept most (Some n)
-kept_by most n = by (nat_le n most)
-  where
-    by : (b : Bool) → then_some b n ≡ cond b (Some n) None
-    by true = refl
-    by false = refl
+-- a first digit with the rest, as the code takes the rest
+pub first_with_rest : (most : ℕ) (xs : List ℕ) (d r : Option ℕ) → 0 < length xs → (get_or xs 0 0 ≡ 48 → ⊥)
+    → length (take (length xs - 1) (drop 1 xs)) ≤ 9
+    → d ≡ digits_on 0 (get_or xs 0 0 ∷ take (length xs - 1) (drop 1 xs)) → r ≡ kept most d → r ≡ number_of most xs
+first_with_rest most [] d r p z s e f = absurd (omega arith)
+first_with_rest most (b ∷ bs) d r p z s e f =
+    let t = take_rest (b ∷ bs) 1 in
+    let y : length bs ≤ 9 = omega (arith, s, ap length t) in
+    f ∙ ap (kept most) (e ∙ ap (λ ys. digits_on 0 (b ∷ ys)) t) ∙ short most (b ∷ bs) (fits_shape b bs z y)

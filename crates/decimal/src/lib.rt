@@ -3,35 +3,40 @@
 // Writing gives the same text again, into a small value of at most ten bytes; nothing is asked of a caller.
 #![tactic(auto)]
 
-ghost use Rattle.std.specs.Prelude.{◌≡◌, ◌≤◌, ◌&&◌, decimal, IfSome};
-ghost use Rattle.decimal.specs.Numbers.{number_of, shaped};
-ghost use Rattle.std.specs.Char.{is_ascii_digit};
-ghost use Rattle.std.specs.List.{list_all};
-ghost use Rattle.std.specs.Str.{all_ascii_digits};
+ghost use Rattle.decimal.specs.Numbers.{digits_on, kept, number_of};
+ghost use Rattle.decimal.specs.Texts.{text_of};
+ghost use Rattle.std.specs.Prelude.{◌≡◌, ◌≤◌, ◌∷◌, length, decimal, IfSome};
 
-use arrayvec::ArrayVec;
-use itoa::Buffer;
-use std::str;
+mod text;
 
-/// A text of at most ten bytes. They are a vector and no string, since labels are texts of any bytes.
-pub type Text = ArrayVec<u8, 10>;
+pub use tables::Full;
+pub use text::Text;
 
-/// Whether a text is nothing but digits.
-fn is_digits(text: &[u8]) -> bool
-    ensures { result ≡ list_all is_ascii_digit text.now }
+/// The number of a first digit with the rest, in one pass: ten digits are no more than 64 bits hold.
+fn digits(first: u8, rest: &[u8]) -> Option<u64>
+    requires { length rest.now ≤ 9 }
+    ensures { result ≡ digits_on 0 (first ∷ rest.now) }
 {
-    text.iter().all(u8::is_ascii_digit)
+    if !first.is_ascii_digit() {
+        return None;
+    }
+    let mut value = u64::from(first - b'0');
+    for digit in rest {
+        if !digit.is_ascii_digit() {
+            return None;
+        }
+        value = 10 * value + u64::from(*digit - b'0');
+    }
+    Some(value)
 }
 
-/// Whether a text is 1 to 10 digits with no leading zero, where `parse` alone would take a sign and zeros in front.
-fn is_numeral(text: &[u8]) -> bool
-    ensures { result ≡ (shaped text.now && all_ascii_digits text.now) }
+/// A number that is at most `most`.
+fn keep(value: Option<u64>, most: u32) -> Option<u32>
+    ensures value { result ≡ kept most value }
+    ensures bound { IfSome result (λ number. number ≤ most) }
 {
-    match text {
-        [b'0'] => true,
-        [] | [b'0', ..] => false,
-        [_, rest @ ..] => rest.len() <= 9 && is_digits(text),
-    }
+    let number = u32::try_from(value?).ok()?;
+    (number <= most).then_some(number)
 }
 
 /// The number of a text of 1 to 10 digits with no leading zero, at most `most`.
@@ -39,17 +44,22 @@ pub fn read(text: &[u8], most: u32) -> Option<u32>
     ensures value { result ≡ number_of most text.now }
     ensures bound { IfSome result (λ number. number ≤ most) }
 {
-    if !is_numeral(text) {
-        return None;
+    match text {
+        [] => None,
+        [b'0'] => Some(0),
+        [b'0', _, ..] => None,
+        [first, rest @ ..] => {
+            if rest.len() > 9 {
+                return None;
+            }
+            keep(digits(*first, rest), most)
+        }
     }
-    let number = str::from_utf8(text).ok()?.parse().ok()?;
-    (number <= most).then_some(number)
 }
 
 /// The digits of a number.
 pub fn write(number: u32) -> Text
-    ensures { result.items ≡ decimal number }
+    ensures { text_of result ≡ decimal number }
 {
-    // A number has at most ten digits.
-    Text::try_from(Buffer::new().format(number).as_bytes()).unwrap()
+    Text::number(number)
 }

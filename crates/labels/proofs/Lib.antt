@@ -1,1 +1,2 @@
 mod PacketReading
+mod PacketWriting

@@ -4,11 +4,11 @@ use Rattle.decimal.proofs.TwoWays.{own, Numeral, numeral, number_decimal, decima
 use Rattle.decimal.specs.Numbers.{number_of}
 use Rattle.labels.specs.Serials.{written_up_to}
 use Rattle.labels.specs.Labels.{packet_code, packet_reads, packet_text, packet_writes}
-use Rattle.std.proofs.lemmas.List.Sums.{split_at_first, passes_at_first}
+use Rattle.marks.proofs.Parted.{whole}
 use Rattle.marks.specs.Marks.{span_to, before, behind}
 use Rattle.std.proofs.lemmas.Nat.{div-mul-add, mod-mul-add, div-add-mod'}
 use Rattle.std.proofs.lemmas.Fmt.{digits_decimal, length-decimal-le}
-use Rattle.std.proofs.lemmas.Bool.{le-leb, eqb-true}
+use Rattle.std.proofs.lemmas.Bool.{le-leb}
 use Rattle.std.proofs.lemmas.Bool.Decides.{nat_tests}
 use Rattle.std.specs.Str.{all_ascii_digits}
 use Rattle.std.proofs.Common.{length-append, length-drop, take_at, sym, ap, ◌∙◌, arith}
@@ -91,18 +91,13 @@ module _ (text : List ℕ) (code : ℕ) (e : packet_reads text ≡ Some code) wh
   code-small : code ≤ 33554431
   code-small = omega (arith, read-pair.both, apid-known.bound, count-known.bound)
 
-  cut : text ≡ before 46 text ++ 46 ∷ behind 46 text
-  cut =
-      split_at_first (λ b. b == 46) text 0 has-stop
-      ∙ ap (λ b. before 46 text ++ b ∷ behind 46 text) (eqb-true _ 46 (passes_at_first (λ b. b == 46) text 0 has-stop))
-
   text-again : packet_text code ≡ text
   text-again =
       ap (λ n. decimal n ++ 46 ∷ decimal (code % 16384)) quotient
       ∙ ap (λ n. decimal read-pair.apid ++ 46 ∷ decimal n) remainder
       ∙ ap (λ ds. ds ++ 46 ∷ decimal read-pair.count) (decimal_number 2047 (before 46 text) read-pair.apid (omega arith) read-pair.left)
       ∙ ap (λ ds. before 46 text ++ 46 ∷ ds) (decimal_number 16383 (behind 46 text) read-pair.count (omega arith) read-pair.right)
-      ∙ sym cut
+      ∙ sym (whole 46 text has-stop)
 
   pub packet_sized : (1 ≤ length text) × (length text ≤ 10)
   packet_sized =

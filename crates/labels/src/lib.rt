@@ -92,9 +92,8 @@ impl LabelKind for Packet {
         }
         // An identifier of at most 4 digits, the stop and a count of at most 5 fit into the ten bytes.
         let mut text = decimal::write(code / 16384);
-        text.push(b'.');
-        text.try_extend_from_slice(&decimal::write(code % 16384))
-            .unwrap();
+        text.push(b'.')?;
+        text.append(&decimal::write(code % 16384))?;
         Ok(text)
     }
 }

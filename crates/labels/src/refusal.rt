@@ -1,6 +1,9 @@
 // Why a code is not written as a label.
 ghost use Rattle.labels.specs.Refusals.{refusal_number};
+ghost use Rattle.labels.specs.declared.refusal.LabelRefusal.TheVariants.{NoText};
 ghost use Rattle.std.specs.Prelude.{◌≡◌};
+
+use decimal::Full;
 
 /// Why a code is not written, with the number by which the refusal is known.
 #[derive(Clone, Copy, PartialEq, Eq, Debug)]
@@ -16,5 +19,13 @@ impl LabelRefusal {
         ensures { result ≡ refusal_number self }
     {
         self as u8
+    }
+}
+
+impl From<Full> for LabelRefusal {
+    ghost from_gives = { λ _ r. r ≡ NoText };
+
+    fn from(_full: Full) -> LabelRefusal {
+        LabelRefusal::NoText
     }
 }

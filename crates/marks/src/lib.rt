@@ -34,5 +34,11 @@ pub fn count(bytes: &[u8], mark: u8) -> usize
     ensures value { result ≡ marks_in mark bytes.now }
     ensures bound { result ≤ length bytes.now }
 {
-    bytes.iter().filter(|byte| **byte == mark).count()
+    let mut marks = 0;
+    for byte in bytes {
+        if *byte == mark {
+            marks += 1;
+        }
+    }
+    marks
 }

@@ -1,13 +1,24 @@
+use Rattle.decimal.specs.Texts.{text_of}
 use Rattle.labels.proofs.PacketLabelKind.write.Goals as goal
-use Rattle.labels.specs.Packets.{packet_length}
-use Rattle.std.proofs.Common.{length, ap, ◌∙◌, arith, length-append}
+use Rattle.labels.proofs.PacketWriting.{stop_fits, count_fits, packet_written}
+use Rattle.std.proofs.lemmas.Bool.{both_ways}
+use Rattle.std.proofs.Common.{sym}
 
-pub push-requires : goal.push-requires
-push-requires c = omega (arith, ap length c.write-text.ensures, (packet_length c.args.code c.if-code-gt33554431.false).0)
+pub returns-in_err-push : goal.returns-in_err-push
+returns-in_err-push c =
+    absurd
+    (both_ways _ (sym c.in_err-push.ensures.answer)
+    (stop_fits c.args.code c.if-code-gt33554431.false (text_of c.write-text.result) c.write-text.ensures))
 
-pub unwrap-requires : goal.unwrap-requires
-unwrap-requires c =
-    let sizes = packet_length c.args.code c.if-code-gt33554431.false in
-    let front = ap length c.push.ensures.items ∙ length-append c.write-text.result.items _ in
-    let behind = ap length (c.deref.ensures.0 ∙ c.write.ensures) in
-    c.try_extend_from_slice.ensures.variant.1 (omega (arith, ap length c.write-text.ensures, front, behind, sizes.0, sizes.1))
+pub returns-in_err-append : goal.returns-in_err-append
+returns-in_err-append c =
+    absurd
+    (both_ways _ (sym c.in_err-append.ensures.answer)
+    (count_fits c.args.code c.if-code-gt33554431.false (text_of c.write-text.result) c.write-text.ensures
+    (text_of c.push.new.self) c.push.ensures.after (text_of c.write.result) c.write.ensures))
+
+pub returns : goal.returns
+returns c =
+    packet_written c.args.code c.if-code-gt33554431.false (text_of c.write-text.result) c.write-text.ensures
+    (text_of c.push.new.self) c.push.ensures.after (text_of c.write.result) c.write.ensures
+    (text_of c.append.new.self) c.append.ensures.after
