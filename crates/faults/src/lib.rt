@@ -55,7 +55,7 @@ pub enum LineFault {
 /// What a whole trace can be refused for.
 #[derive(Clone, Copy, PartialEq, Eq, Debug)]
 pub enum RunFault {
-    /// The trace is too long, and no line of it is read.
+    /// The trace is too long, or there is too little room for the answer.
     Size,
     /// A line, by its number, has a fault.
     At(u32, LineFault),
