@@ -1,1 +1,2 @@
+pub mod OneMore
 mod EachOwner

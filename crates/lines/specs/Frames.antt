@@ -6,7 +6,8 @@ use Rattle.reader.specs.Parts.{field_at}
 use Rattle.faults.specs.declared.FieldCause.TheVariants.{Form}
 use Rattle.faults.specs.declared.LineFault.{LineFault}
 use Rattle.lines.specs.Owners.{Owner}
-use Rattle.arrayvec.specs.ArrayVec.{ArrayVec}
+use Rattle.tables.specs.Tables.{listed}
+use Rattle.tables.specs.declared.table.Table.{Table}
 
 -- a digit 0 to 7 is a client and a full stop nobody
 abbrev pub owner_of : ℕ → Option Owner
@@ -31,7 +32,7 @@ owners_in text = cond (nat_lt 0 (length text) && nat_le (length text) 256) (owne
 abbrev pub frame_of : List ℕ → Result (List Owner) LineFault
 frame_of line = and_then (opens 70 2 line) (λ _. in_field (or_fault 2 Form (owners_in (field_at 1 line))))
 
--- the items that were read
-abbrev pub items_in : {T : Type 0} → Result (ArrayVec T) LineFault → Result (List T) LineFault
-items_in (Ok v) = Ok v.items
-items_in (Err fault) = Err fault
+-- a table that was read, as its items
+abbrev pub listed_in : {T : Type 0} {N : ℕ} → Result (Table T N) LineFault → Result (List T) LineFault
+listed_in (Ok t) = Ok (listed t)
+listed_in (Err fault) = Err fault

@@ -10,3 +10,4 @@ mod records;
 pub use lines::{client, end, header, request};
 pub use owners::frame;
 pub use records::{Client, Header, Owner, Request};
+pub use tables::Table;

@@ -1,14 +1,13 @@
 // The line of the frame's owners.
-ghost use Rattle.lines.specs.Frames.{frame_of, items_in, owner_of, owners_in};
-ghost use Rattle.lines.specs.Owners.{Owner};
-ghost use Rattle.arrayvec.specs.ArrayVec.{ArrayVec as Items};
+ghost use Rattle.lines.specs.Frames.{frame_of, listed_in, owner_of, owners_in};
 ghost use Rattle.std.specs.Option.{option_map};
 ghost use Rattle.std.specs.Prelude.{◌≡◌};
+ghost use Rattle.tables.specs.Tables.{listed};
 
 use crate::records::Owner;
-use arrayvec::ArrayVec;
 use faults::{FieldCause, LineFault};
 use reader::open;
+use tables::Table;
 
 /// Who a character stands for: a client by its digit, or nobody by a full stop.
 fn owner(letter: u8) -> Option<Owner>
@@ -22,23 +21,23 @@ fn owner(letter: u8) -> Option<Owner>
 }
 
 /// The owners of a text of 1 to 256 characters.
-fn owners(text: &[u8]) -> Option<ArrayVec<Owner, 256>>
-    ensures { option_map (λ (owners : Items Owner). owners.items) result ≡ owners_in text.now }
+fn owners(text: &[u8]) -> Option<Table<Owner, 256>>
+    ensures { option_map listed result ≡ owners_in text.now }
 {
     if text.is_empty() {
         return None;
     }
-    // A loop, since `collect` asks for an allocator, which a vector of fixed room has no use for.
-    let mut owners = ArrayVec::new();
+    // A loop, since `collect` asks for an allocator, which a table has no use for.
+    let mut owners = Table::new(None);
     for letter in text {
-        owners.try_push(owner(*letter)?).ok()?;
+        owners.push(owner(*letter)?).ok()?;
     }
     Some(owners)
 }
 
 /// The line `F,owners`.
-pub fn frame(line: &[u8]) -> Result<ArrayVec<Owner, 256>, LineFault>
-    ensures { items_in result ≡ frame_of line.now }
+pub fn frame(line: &[u8]) -> Result<Table<Owner, 256>, LineFault>
+    ensures { listed_in result ≡ frame_of line.now }
 {
     let mut fields = open(line, b'F', 2)?;
     let fault = fields.fault(FieldCause::Form);

@@ -1,12 +1,12 @@
 -- What is left to read of a trace, its next line and the fields of a line.
-use Rattle.std.specs.Prelude.{ℕ, zero, suc, ◌+◌, cond, List, length, Some, None, Option, nat_lt}
+use Rattle.std.specs.Prelude.{ℕ, zero, suc, ◌+◌, cond, List, length, drop, Some, None, Option, nat_lt}
 use Rattle.marks.specs.Marks.{span_to, before, behind, marks_in}
 use Rattle.reader.specs.declared.fields.Fields.{Fields}
 use Rattle.reader.specs.declared.reader.Reader.{Reader}
 
--- the bytes of a trace that are left
+-- the bytes of a trace that are left, from the place on
 abbrev pub left : Reader → List ℕ
-left r = r.bytes.now
+left r = drop r.place r.bytes.now
 
 -- the fields of a line that are left, and the number of the next
 abbrev pub fields_left : Fields → List ℕ

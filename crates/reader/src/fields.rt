@@ -20,9 +20,17 @@ impl<'a> Fields<'a> {
         ensures left { fields_left result ≡ line.now }
         ensures number { field_number result ≡ 1 }
     {
+        Fields::at(line, 1)
+    }
+
+    /// The fields that are left of a line, the next of which has that number.
+    pub fn at(rest: &'a [u8], field: u8) -> Fields<'a>
+        ensures left { fields_left result ≡ rest.now }
+        ensures number { field_number result ≡ field }
+    {
         Fields {
-            bytes: line,
-            next: 1,
+            bytes: rest,
+            next: field,
         }
     }
 

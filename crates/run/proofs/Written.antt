@@ -1,5 +1,5 @@
 -- One call of a run: its line, if it has one, is written behind what was there, as far as there is room.
-use Rattle.std.proofs.Common.{◌≡◌, ℕ, ◌<◌, ◌≤◌, Bool, true, false, cond, leb, ltb, List, [], ◌∷◌, ◌++◌, length, take, Ok, Err, Option, Result, Some, None, sym, refl, ap, ◌∙◌, IsOk, OnOk, OnErr, arith}
+use Rattle.std.proofs.Common.{◌≡◌, ℕ, ◌<◌, ◌≤◌, Bool, true, false, cond, leb, ltb, List, [], ◌∷◌, ◌++◌, length, take, Ok, Err, Option, Some, None, sym, refl, ap, ◌∙◌, arith}
 use Rattle.std.proofs.lemmas.List.{append-nil, take_all, take-append-le, length-take-le, length-append}
 use Rattle.std.proofs.lemmas.Bool.{le-ltb, lt-ltb, leb-true, leb-false}
 use Rattle.server.specs.declared.server.Server.{Ghosts}
@@ -11,7 +11,6 @@ use Rattle.book.specs.declared.calls.Call.{Call}
 use Rattle.book.specs.declared.calls.Event.{Event}
 use Rattle.book.specs.declared.calls.Event.TheVariants.{Submit, Slot, Ask}
 use Rattle.book.specs.Runs.{call_of, Takes, happens, leads}
-use Rattle.arrayvec.specs.ArrayVec.{ArrayVec}
 use Rattle.lines.specs.Tables.{pushed}
 use Rattle.logs.specs.declared.line.Line.{Line}
 use Rattle.run.specs.Logs.{after, line_of, list_of, lines_from}
@@ -48,15 +47,6 @@ pushed_take most all item = by (leb most (length all)) refl
         ap (λ t. cond t (take most all ++ (item ∷ [])) (take most all)) first
         ∙ ap (λ v. v ++ (item ∷ [])) whole
         ∙ sym (take_all most (all ++ (item ∷ [])) (omega (arith, length-append all (item ∷ []))))
-
--- what a vector takes where it has room
-pub tried : {T E : Type 0} (most : ℕ) (old new : ArrayVec T) (item : T) (r : Result (Unit {0}) E) → (IsOk r → length old.items < most)
-    → OnOk r (new.items ≡ old.items ++ (item ∷ [])) → OnErr r (new ≡ old) → OnErr r (length old.items ≡ most) → new.items ≡ pushed most old.items item
-tried most old new item (Ok done) room is same full =
-    is ∙ sym (ap (λ t. cond t (old.items ++ (item ∷ [])) old.items) (lt-ltb (length old.items) most (room refl)))
-tried {T} most old new item (Err e) room is same full =
-    ap (λ (v : ArrayVec T). v.items) same
-    ∙ sym (ap (λ t. cond t (old.items ++ (item ∷ [])) old.items) (le-ltb (length old.items) most (omega arith)))
 
 module _ {S : Type 0} (a : Ghosts S) (lawful : (z : S) → Lawful (a.means (a.state z))) (x y : S) (call : Call) (event : Event) (of : call_of event ≡ call)
     (takes : Takes (a.means (a.state x)) event (a.means (a.state y)))

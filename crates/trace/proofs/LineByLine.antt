@@ -1,7 +1,6 @@
 -- One turn of the reading: a line that is there is taken off the parts, and without one the last part is left.
-use Rattle.std.proofs.Common.{◌≡◌, ℕ, suc, ◌+◌, ◌<◌, ◌≤◌, cond, ltb, List, [], ◌∷◌, length, Some, None, Ok, Err, Option, Result, sym, refl, ap, ◌∙◌, arith, length-drop, ◌==◌}
-use Rattle.std.proofs.lemmas.List.Splits.{length-slice_split, slice_split_none, slice_split_first}
-use Rattle.std.proofs.lemmas.List.Sums.{fails_before_first}
+use Rattle.std.proofs.Common.{◌≡◌, ℕ, suc, ◌+◌, ◌<◌, ◌≤◌, cond, ltb, List, [], ◌∷◌, length, Some, None, Ok, Err, Option, Result, sym, refl, ap, ◌∙◌, arith, length-drop}
+use Rattle.marks.proofs.Parted.{parts_some, parts_all, parts_more}
 use Rattle.marks.specs.Marks.{span_to, before, behind, parts}
 use Rattle.std.proofs.lemmas.Bool.{lt-ltb, le-ltb, le-leb}
 use Rattle.std.proofs.lemmas.Bool.Decides.{nat_tests}
@@ -22,17 +21,9 @@ some_below n k line x e = (grind (arith, nat_tests), grind (arith, nat_tests))
 none_above : (n k : ℕ) (x : List ℕ) → None ≡ cond (ltb n k) (Some x) None → k ≤ n
 none_above n k x e = grind (arith, nat_tests)
 
--- there is always a part
-parts_some : (bytes : List ℕ) → 0 < length (parts 10 bytes)
-parts_some bytes = omega (arith, length-slice_split (λ b. b == 10) bytes)
-
--- bytes without an end of line are one part
-parts_all : (bytes : List ℕ) → length bytes ≤ span_to 10 bytes → parts 10 bytes ≡ bytes ∷ []
-parts_all bytes h = slice_split_none (λ b. b == 10) bytes (λ k d here. fails_before_first (λ b. b == 10) bytes k d (omega (arith, h, here)))
-
 -- no line is left
 pub last_part : (bytes : List ℕ) → None ≡ next_line bytes → parts 10 bytes ≡ bytes ∷ []
-last_part bytes e = parts_all bytes (none_above (span_to 10 bytes) (length bytes) (before 10 bytes) e)
+last_part bytes e = parts_all 10 bytes (none_above (span_to 10 bytes) (length bytes) (before 10 bytes) e)
 
 pub nothing_after : (bytes : List ℕ) → None ≡ next_line bytes → after_line bytes ≡ bytes
 nothing_after bytes e =
@@ -51,7 +42,7 @@ module _ (bytes line rest : List ℕ) (is-line : Some line ≡ next_line bytes) 
 
   pub first_part : parts 10 bytes ≡ line ∷ parts 10 rest
   first_part =
-      slice_split_first (λ b. b == 10) bytes 0 ended
+      parts_more 10 bytes ended
       ∙ ap (λ x. x ∷ parts 10 (behind 10 bytes)) (sym (some_below (span_to 10 bytes) (length bytes) line (before 10 bytes) is-line).1)
       ∙ ap (λ x. line ∷ parts 10 x) (sym rest-is)
 
@@ -89,7 +80,7 @@ module _ {S : Type 0} (desk : Desk S) where
       → lines_of desk s (parts 10 bytes)
       ≡ and_then (at_line 1 (header_line desk s line)) (λ o. lines_from desk (reads_as o.seen.header.kind) o 2 (parts 10 rest))
   lines_first s bytes line rest is-line is-rest =
-      ap (lines_of desk s) (first_part bytes line rest is-line is-rest) ∙ first-cons s line (parts 10 rest) (parts_some rest)
+      ap (lines_of desk s) (first_part bytes line rest is-line is-rest) ∙ first-cons s line (parts 10 rest) (parts_some 10 rest)
 
   pub same_start : (reads : List ℕ → Option ℕ) (a b : Seen) → a ≡ b → (s : S) (n : ℕ) (ps : List (List ℕ))
       → lines_from desk reads (record { seen = a; booked = s }) n ps ≡ lines_from desk reads (record { seen = b; booked = s }) n ps
@@ -101,7 +92,7 @@ module _ {S : Type 0} (desk : Desk S) where
       (all : Result (Read S) RunFault) (so_far : lines_from desk reads o n (parts 10 bytes) ≡ all) where
     lines_more : and_then (at_line n (line_at desk o o.seen.place reads line)) (λ o. lines_from desk reads o (n + 1) (parts 10 rest)) ≡ all
     lines_more =
-        sym (ap (lines_from desk reads o n) (first_part bytes line rest is-line is-rest) ∙ lines_cons reads o n line (parts 10 rest) (parts_some rest))
+        sym (ap (lines_from desk reads o n) (first_part bytes line rest is-line is-rest) ∙ lines_cons reads o n line (parts 10 rest) (parts_some 10 rest))
         ∙ so_far
 
     pub line_taken : (after : Open S) → Ok after ≡ line_at desk o o.seen.place reads line → lines_from desk reads after (n + 1) (parts 10 rest) ≡ all

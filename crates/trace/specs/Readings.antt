@@ -17,6 +17,7 @@ use Rattle.lines.specs.declared.records.Client.{Client}
 use Rattle.lines.specs.declared.records.Header.{Header}
 use Rattle.lines.specs.Owners.{Owner}
 use Rattle.lines.specs.declared.records.Request.{Request}
+use Rattle.tables.specs.Tables.{listed}
 
 -- what a trace tells
 pub record Told : Type 0 where
@@ -42,11 +43,11 @@ pub record Open (S : Type 0) : Type 0 where
 
 -- what a trace that was read tells
 abbrev pub told_of : Trace → Told
-told_of t = record { header = t.header; owners = t.owners.items; clients = t.clients.items; requests = t.requests.items; end = t.end }
+told_of t = record { header = t.header; owners = listed t.owners; clients = listed t.clients; requests = listed t.requests; end = t.end }
 
 -- a trace that is being read, as far as it was read
 abbrev pub seen_of : Reading → Seen
-seen_of r = record { header = r.header; owners = r.owners.items; clients = r.clients.items; requests = r.requests.items; place = r.place; slot = r.slot }
+seen_of r = record { header = r.header; owners = listed r.owners; clients = listed r.clients; requests = listed r.requests; place = r.place; slot = r.slot }
 
 -- the same, with what is booked for it
 abbrev pub open_of : {S : Type 0} → Reading → S → Open S

@@ -1,14 +1,13 @@
 // A trace as it was read, and a trace that is being read.
-use arrayvec::ArrayVec;
-use lines::{Client, Header, Owner, Request};
+use lines::{Client, Header, Owner, Request, Table};
 
 /// What a trace tells: its header, the frame's owners, the clients, the requests and the slot of the end.
 #[derive(Drop)]
 pub struct Trace {
     pub header: Header,
-    pub owners: ArrayVec<Owner, 256>,
-    pub clients: ArrayVec<Client, 8>,
-    pub requests: ArrayVec<Request, 600>,
+    pub owners: Table<Owner, 256>,
+    pub clients: Table<Client, 8>,
+    pub requests: Table<Request, 600>,
     pub end: u32,
 }
 
@@ -33,9 +32,9 @@ pub enum Place {
 pub struct Reading {
     // `Trace` has the first four too: one struct for them would stand between a trace's callers and its parts.
     pub(crate) header: Header,
-    pub(crate) owners: ArrayVec<Owner, 256>,
-    pub(crate) clients: ArrayVec<Client, 8>,
-    pub(crate) requests: ArrayVec<Request, 600>,
+    pub(crate) owners: Table<Owner, 256>,
+    pub(crate) clients: Table<Client, 8>,
+    pub(crate) requests: Table<Request, 600>,
     pub(crate) place: Place,
     pub(crate) slot: u32,
 }

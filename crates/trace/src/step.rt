@@ -5,10 +5,9 @@ ghost use Rattle.std.specs.Prelude.{◌≡◌};
 
 use crate::bookings::Bookings;
 use crate::reading::{Place, Reading};
-use arrayvec::ArrayVec;
 use faults::LineFault;
 use labels::LabelKind;
-use lines::{Header, client, end, frame, request};
+use lines::{Client, Header, Request, Table, client, end, frame, request};
 use reader::begins;
 
 impl Reading {
@@ -18,9 +17,9 @@ impl Reading {
     {
         Reading {
             header,
-            owners: ArrayVec::new(),
-            clients: ArrayVec::new(),
-            requests: ArrayVec::new(),
+            owners: Table::new(None),
+            clients: Table::new(Client::default()),
+            requests: Table::new(Request::default()),
             place: Place::Frame,
             slot: 0,
         }
@@ -54,7 +53,7 @@ impl Reading {
         bookings.reserve(&client)?;
         // A station's bookings have refused a ninth client by now. Only bookings that do not refuse it come here
         // with one, and then the first eight are kept.
-        let _ = self.clients.try_push(client);
+        let _ = self.clients.push(client);
         self.place = Place::Clients;
         Ok(())
     }
@@ -68,7 +67,7 @@ impl Reading {
             return Err(LineFault::Slot);
         }
         self.requests
-            .try_push(request)
+            .push(request)
             .map_err(|_| LineFault::Crowd)?;
         self.place = Place::Requests;
         self.slot = request.slot;

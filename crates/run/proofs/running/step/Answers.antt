@@ -1,14 +1,14 @@
 use Rattle.std.proofs.Common.{sym, ◌∙◌}
-use Rattle.run.proofs.Written.{ran_some, ran_none, tried}
+use Rattle.lines.proofs.OneMore.{one_more}
+use Rattle.run.proofs.Written.{ran_some, ran_none}
 use Rattle.run.proofs.running.step.Goals as goal
 
 pub returns-in-Some : goal.returns-in-Some
 returns-in-Some g c =
     let e = c.make-event.ensures in
-    let t = c.try_push.ensures in
     ran_some g.S.Server g.met.S.Server.lawful c.args.server.now c.make-event.new.server c.args.call c.make-event.result e.of e.takes e.exactly c.now.result c.now.ensures
     c.in-Some.line (sym c.in-Some.is ∙ c.line_of.ensures) _ _
-    (tried 1208 c.args.journal.now c.try_push.new.self c.in-Some.line c.try_push.result t.variant.0 t.ok t.err t.full)
+    (c.push.ensures.after ∙ one_more 1208 _ c.in-Some.line)
 
 pub returns-in_default : goal.returns-in_default
 returns-in_default g c =
