@@ -7,10 +7,10 @@ ghost use Rattle.server.specs.Meant.{meant};
 
 use crate::chain::Chain;
 use server::block::Served;
-use server::rate::Terms;
+use server::rate::{Rate, Terms};
 use server::refusal::Refusal;
 use server::server::Server;
-use server::view::View;
+use server::view::{View, accept_behind, accept_length};
 
 impl<A: Server, B: Server> Server for Chain<A, B> {
     ghost State = { Joint A.Server.State B.Server.State };
@@ -52,14 +52,51 @@ impl<A: Server, B: Server> Server for Chain<A, B> {
         })
     }
 
-    // A submission goes to the first; its due is by both latencies.
+    // The four questions have bodies of their own: rate and clock are asked of the first alone, so that of a chain of
+    // many hops they reach only those at its beginning, and no more of a client is looked up than is told.
+    fn rate(&self, client: u8) -> Result<Rate, Refusal> {
+        if client >= self.clients {
+            return Err(Refusal::NoClient);
+        }
+        self.first.rate(client)
+    }
+
+    fn latency(&self, client: u8) -> Result<u32, Refusal> {
+        if client >= self.clients {
+            return Err(Refusal::NoClient);
+        }
+        let first = self.first.latency(client)?;
+        let second = self.second.latency(client)?;
+        Ok(first.saturating_add(second))
+    }
+
+    fn clock(&self, client: u8) -> Result<u64, Refusal> {
+        if client >= self.clients {
+            return Err(Refusal::NoClient);
+        }
+        self.first.clock(client)
+    }
+
+    fn waiting(&self, client: u8) -> Result<u8, Refusal> {
+        if client >= self.clients {
+            return Err(Refusal::NoClient);
+        }
+        let first = self.first.waiting(client)?;
+        let second = self.second.waiting(client)?;
+        Ok(first.saturating_add(second))
+    }
+
+    // A submission goes to the first; its due is by both latencies. What may refuse it is asked for cause by cause,
+    // so that a refusal costs no more than it must.
     fn submit(&mut self, client: u8, label: u32, length: u8) -> Result<u64, Refusal> {
-        let view = self.view(client)?;
-        view.accept(length)?;
+        let rate = self.rate(client)?;
+        accept_length(length)?;
+        accept_behind(self.waiting(client)?)?;
+        let latency = self.latency(client)?;
+        let clock = self.clock(client)?;
         // Granted, since no more wait in the first than in both.
         let _ = self.first.submit(client, label, length);
-        let start = view.terms.rate.start_at(view.clock, self.now);
-        Ok(view.terms.due(start))
+        Ok(Terms { rate, latency }.due(rate.start_at(clock, self.now)))
     }
 
     // The second serves, then the first, then what departed from the first goes to the second.
