@@ -1,6 +1,7 @@
 -- The starts that a chain keeps, and what its two servers' answers make of them. Assumes nothing.
 use Rattle.std.specs.Prelude.{ℕ, cond, List, [], ◌∷◌, ◌++◌, map, length, drop, Ok, Err, ◌==◌, nat_lt, slice_index, slice_index_or}
-use Rattle.arrayvec.specs.ArrayVec.{ArrayVec}
+use Rattle.tables.specs.declared.table.Table.{Table}
+use Rattle.tables.specs.Tables.{listed}
 use Rattle.server.specs.declared.block.Served.{Served}
 use Rattle.server.specs.declared.block.Served.TheVariants.{Nothing, Unit as OneUnit, Departed}
 use Rattle.server.specs.declared.block.Departure.{Departure}
@@ -8,8 +9,8 @@ use Rattle.server.specs.Calls.{SlotAnswer}
 use Rattle.join.specs.declared.starts.Starts.{Starts}
 
 -- the starts of each client, oldest first
-abbrev pub starts_of : List (ArrayVec ℕ) → ℕ → List ℕ
-starts_of rows k = slice_index_or (map (λ r. r.items) rows) k []
+abbrev pub starts_of : {N : ℕ} → List (Table ℕ N) → ℕ → List ℕ
+starts_of rows k = slice_index_or (map listed rows) k []
 
 abbrev pub starts_in : Starts → ℕ → List ℕ
 starts_in s = starts_of s.rows

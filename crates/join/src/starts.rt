@@ -1,14 +1,14 @@
 ghost use Rattle.std.specs.Prelude.{◌≡◌, [], drop, slice_get};
 
-use arrayvec::ArrayVec;
 use server::block::{Departure, Served};
 use server::refusal::Refusal;
+use tables::Table;
 
 // For each client the starts in the first server of its blocks that wait in the second, oldest first. A row is
 // written by its index: of `get_mut` of an array a proof does not learn what the array is after it.
-#[derive(Drop)]
+#[derive(Clone, Copy)]
 pub(crate) struct Starts {
-    pub(crate) rows: [ArrayVec<u64, 8>; 8],
+    pub(crate) rows: [Table<u64, 8>; 8],
 }
 
 impl Starts {
@@ -19,7 +19,7 @@ impl Starts {
         ensures { starts_in result ≡ (λ k. []) }
     {
         Starts {
-            rows: Default::default(),
+            rows: [Table::new(0); 8],
         }
     }
 
@@ -31,7 +31,10 @@ impl Starts {
         if client >= 8 {
             return None;
         }
-        self.rows[usize::from(client)].pop_at(0)
+        let place = usize::from(client);
+        let start = self.rows[place].as_slice().first().copied();
+        self.rows[place].remove_first();
+        start
     }
 
     // One more start of a client, where there is room.
@@ -39,7 +42,7 @@ impl Starts {
         ensures { starts_in self.new ≡ put_in client start (starts_in self.old) }
     {
         if client < 8 {
-            let _ = self.rows[usize::from(client)].try_push(start);
+            let _ = self.rows[usize::from(client)].push(start);
         }
     }
 
