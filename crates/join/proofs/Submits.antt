@@ -1,7 +1,6 @@
 -- A submission to a chain: what it answers, what it leaves, and that the chain still stands.
 use Rattle.std.proofs.Common.{◌≡◌, ℕ, ◌+◌, ◌*◌, ◌/◌, ◌<◌, ◌≤◌, min, max, Bool, true, cond, List, length, Ok, sym, ap, ◌∙◌, subst, mul-le-mul, arith}
 use native.Mathlib.Nat.{min-eq_left}
-use Rattle.server.specs.declared.rate.Rate.{Rate}
 use Rattle.server.specs.declared.view.View.{View}
 use Rattle.server.specs.Meaning.{Client, Meaning}
 use Rattle.server.specs.Calls.{DueAnswer, asked, view_of, at, start_at, due_of, entered, granting, granted, submitted}
@@ -20,14 +19,6 @@ module _ (count t : ℕ) (ss : ℕ → List ℕ) (m n : Meaning) (S : Stands cou
 
   some : 0 < count
   some = omega (arith, known)
-
-  pub waiting_both : (a b : ℕ) → Ok a ≡ asked m c (λ y. length y.waiting) → Ok b ≡ asked n c (λ y. length y.waiting) → (a + b ≡ length x.waiting) × (a + b ≤ 8)
-  waiting_both a b ea eb =
-      let f : Client → ℕ = λ y. length y.waiting in
-      let a-is = (asked_ok m c a f ea).1 in
-      let b-is = (asked_ok n c b f eb).1 in
-      let l = joined_length t (m.client c) (n.client c) (ss c) (S.links c known) in
-      (omega (arith, a-is, b-is, l), omega (arith, a-is, b-is, (S.links c known).few))
 
   -- what the two servers tell of a client, as the chain tells it
   pub view_both : (a b : View) → Ok a ≡ asked m c view_of → Ok b ≡ asked n c view_of → (late w : ℕ) → late ≡ min (a.terms.latency + b.terms.latency) 4294967295 → w ≡ min (a.waiting + b.waiting) 255
@@ -81,13 +72,13 @@ module _ (count t : ℕ) (ss : ℕ → List ℕ) (m n : Meaning) (S : Stands cou
               (λ ne. S.links k h);
         })
 
-    pub submit_says : Lawful J → (rate : Rate) (latency clock start due : ℕ) → rate ≡ x.terms.rate → latency ≡ x.terms.latency → clock ≡ x.clock → start ≡ max (rate.p * t) clock
-        → due ≡ min (start + latency) 18446744073709551615 / rate.p → ◌≡◌ {A = DueAnswer} (Ok due) (granting J c len)
-    submit_says l rate latency clock start due er el ec es ed =
+    pub submit_says : Lawful J → (v : View) (start due : ℕ) → v ≡ view_of x → start ≡ max (v.terms.rate.p * t) v.clock
+        → due ≡ min (start + v.terms.latency) 18446744073709551615 / v.terms.rate.p → ◌≡◌ {A = DueAnswer} (Ok due) (granting J c len)
+    submit_says l v start due ev es ed =
         let h = l.each c known in
-        let s : start ≡ start_at t x = es ∙ ap (λ (u : Rate). max (u.p * t) clock) er ∙ ap (λ (k : ℕ). max (x.terms.rate.p * t) k) ec in
+        let s : start ≡ start_at t x = es ∙ ap (λ (u : View). max (u.terms.rate.p * t) u.clock) ev in
         let far : x.terms.rate.p * t ≤ 1024 * 4294967296 = mul-le-mul {n₂ = 1024} {m₂ = 4294967296} (omega (arith, h.ranged.rate, h.ranged.small)) (omega (arith, S.counted)) in
-        let fits : min (start + latency) 18446744073709551615 ≡ start + latency = min-eq_left (omega (arith, s, far, el, h.ranged.most, clock_small t x S.counted h)) in
-        let d : due ≡ due_of x (start_at t x) = ed ∙ ap (λ (k : ℕ). k / rate.p) fits ∙ ap (λ (u : Rate). (start + latency) / u.p) er ∙ ap (λ (k : ℕ). (k + latency) / x.terms.rate.p) s ∙ ap (λ (k : ℕ). (start_at t x + k) / x.terms.rate.p) el in
+        let fits : min (start + x.terms.latency) 18446744073709551615 ≡ start + x.terms.latency = min-eq_left (omega (arith, s, far, h.ranged.most, clock_small t x S.counted h)) in
+        let d : due ≡ due_of x (start_at t x) = ed ∙ ap (λ (u : View). min (start + u.terms.latency) 18446744073709551615 / u.terms.rate.p) ev ∙ ap (λ (k : ℕ). k / x.terms.rate.p) fits ∙ ap (λ (k : ℕ). (k + x.terms.latency) / x.terms.rate.p) s in
         let ok : ℕ → DueAnswer = λ k. Ok k in
         ap ok d ∙ sym (granting_is J c len chain_grants)

@@ -1,5 +1,5 @@
 -- Whether two servers fit. Assumes nothing.
-use Rattle.std.specs.Prelude.{◌≡◌, ℕ, zero, suc, ◌+◌, Bool, true, cond, ◌&&◌, Ok, Err, Result, ◌==◌, nat_le, nat_lt}
+use Rattle.std.specs.Prelude.{ℕ, zero, suc, ◌+◌, Bool, true, cond, ◌&&◌, Ok, Err, Result, ◌==◌, nat_le}
 use Rattle.server.specs.Meaning.{Meaning}
 use Rattle.join.specs.declared.fit.Misfit.{Misfit}
 use Rattle.join.specs.declared.fit.Misfit.TheVariants.{Differ, Used, Late}
@@ -24,15 +24,7 @@ are_idle x y = idle x && idle y
 abbrev pub is_in_reach : View → View → Bool
 is_in_reach x y = nat_le (x.terms.latency + y.terms.latency) 4194304
 
--- a closure that answers as this test
-abbrev pub Tells : (View → View → Bool → Type 0) → (View → View → Bool) → Type 0
-Tells post test = (a b : View) (r : Bool) → post a b r → r ≡ test a b
-
--- a test of two clients, for client k of both servers
-abbrev pub passes : (View → View → Bool) → Meaning → Meaning → ℕ → Bool
-passes test m n k = nat_lt k m.count && test (view_of (m.client k)) (view_of (n.client k))
-
--- the same for each client of both servers
+-- a test of two clients, for each client of both servers
 abbrev pub each : (View → View → Bool) → Meaning → Meaning → Bool
 each test m n = all_below m.count (λ k. test (view_of (m.client k)) (view_of (n.client k)))
 

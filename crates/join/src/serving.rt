@@ -10,7 +10,7 @@ use server::block::Served;
 use server::rate::{Rate, Terms};
 use server::refusal::Refusal;
 use server::server::Server;
-use server::view::{View, accept_behind, accept_length};
+use server::view::View;
 
 impl<A: Server, B: Server> Server for Chain<A, B> {
     ghost State = { Joint A.Server.State B.Server.State };
@@ -52,22 +52,13 @@ impl<A: Server, B: Server> Server for Chain<A, B> {
         })
     }
 
-    // The four questions have bodies of their own: rate and clock are asked of the first alone, so that of a chain of
-    // many hops they reach only those at its beginning, and no more of a client is looked up than is told.
+    // Rate and clock are the first's. It alone is asked for them, so that of a chain of many hops they reach only
+    // those at its beginning.
     fn rate(&self, client: u8) -> Result<Rate, Refusal> {
         if client >= self.clients {
             return Err(Refusal::NoClient);
         }
         self.first.rate(client)
-    }
-
-    fn latency(&self, client: u8) -> Result<u32, Refusal> {
-        if client >= self.clients {
-            return Err(Refusal::NoClient);
-        }
-        let first = self.first.latency(client)?;
-        let second = self.second.latency(client)?;
-        Ok(first.saturating_add(second))
     }
 
     fn clock(&self, client: u8) -> Result<u64, Refusal> {
@@ -77,26 +68,21 @@ impl<A: Server, B: Server> Server for Chain<A, B> {
         self.first.clock(client)
     }
 
-    fn waiting(&self, client: u8) -> Result<u8, Refusal> {
+    // A submission goes to the first; its due is by both latencies. What may refuse it is looked at cause by cause, so
+    // that a refusal asks no server for more than it must: the length first, as where nothing waits, then how many
+    // wait.
+    fn submit(&mut self, client: u8, label: u32, length: u8) -> Result<u64, Refusal> {
         if client >= self.clients {
             return Err(Refusal::NoClient);
         }
-        let first = self.first.waiting(client)?;
-        let second = self.second.waiting(client)?;
-        Ok(first.saturating_add(second))
-    }
-
-    // A submission goes to the first; its due is by both latencies. What may refuse it is asked for cause by cause,
-    // so that a refusal costs no more than it must.
-    fn submit(&mut self, client: u8, label: u32, length: u8) -> Result<u64, Refusal> {
-        let rate = self.rate(client)?;
-        accept_length(length)?;
-        accept_behind(self.waiting(client)?)?;
-        let latency = self.latency(client)?;
-        let clock = self.clock(client)?;
+        View::default().accept(length)?;
+        let waiting = self.waiting(client)?;
+        View { waiting, ..View::default() }.accept(length)?;
+        let view = self.view(client)?;
         // Granted, since no more wait in the first than in both.
         let _ = self.first.submit(client, label, length);
-        Ok(Terms { rate, latency }.due(rate.start_at(clock, self.now)))
+        let start = view.terms.rate.start_at(view.clock, self.now);
+        Ok(view.terms.due(start))
     }
 
     // The second serves, then the first, then what departed from the first goes to the second.

@@ -5,7 +5,7 @@ use Rattle.server.specs.declared.refusal.Refusal.{Refusal}
 use Rattle.server.specs.declared.refusal.Refusal.TheVariants.{NoClient, BadLength, Full}
 use Rattle.server.specs.declared.view.View.{View}
 use Rattle.server.specs.Meaning.{Client, Meaning, units_left}
-use Rattle.server.specs.Calls.{asked, start_at, due_of, length_ok, accepting_length, accepting_behind, accepting, granted, granting}
+use Rattle.server.specs.Calls.{asked, start_at, due_of, length_ok, accepting, granted, granting}
 use Rattle.server.specs.Laws.{ClientLaws}
 use Rattle.server.proofs.Rows.{left_small}
 
@@ -24,28 +24,15 @@ asked_known {R} m c r f l e =
     ap ok e ∙ sym (ap (λ (b : Bool). cond {A = Result R Refusal} b (ok (f (m.client c))) none) (lt-ltb c m.count l))
 
 -- what is accepted has 1 to 16 units, and finds fewer than eight blocks
-pub accepted_length : (len : ℕ) → ◌≡◌ {A = Result (Unit {0}) Refusal} (Ok tt) (accepting_length len) → (0 < len) × (len ≤ 16)
-accepted_length len e = by (length_ok len) refl e
-  where
-    by : (d : Bool) → length_ok len ≡ d → ◌≡◌ {A = Result (Unit {0}) Refusal} (Ok tt) (cond d (Ok tt) (Err BadLength)) → (0 < len) × (len ≤ 16)
-    by true s g = let p = and_parts (ltb 0 len) (leb len 16) s in (ltb-true 0 len p.0, leb-true len 16 p.1)
-    by false s g = let z : ◌≡◌ {A = ℕ} 0 1 = cc in absurd (omega arith)
-
-pub accepted_behind : (w : ℕ) → ◌≡◌ {A = Result (Unit {0}) Refusal} (Ok tt) (accepting_behind w) → w < 8
-accepted_behind w e = by (ltb w 8) refl e
-  where
-    by : (d : Bool) → ltb w 8 ≡ d → ◌≡◌ {A = Result (Unit {0}) Refusal} (Ok tt) (cond d (Ok tt) (Err Full)) → w < 8
-    by true s g = ltb-true w 8 s
-    by false s g = let z : ◌≡◌ {A = ℕ} 0 1 = cc in absurd (omega arith)
-
 pub accepted : (v : View) (len : ℕ) → ◌≡◌ {A = Result (Unit {0}) Refusal} (Ok tt) (accepting v len) → (0 < len) × (len ≤ 16) × (v.waiting < 8)
-accepted v len e = by (length_ok len) refl e
+accepted v len e = by (length_ok len) (ltb v.waiting 8) refl refl e
   where
-    by : (d : Bool) → length_ok len ≡ d → ◌≡◌ {A = Result (Unit {0}) Refusal} (Ok tt) (cond d (accepting_behind v.waiting) (Err BadLength)) → (0 < len) × (len ≤ 16) × (v.waiting < 8)
-    by true s g =
-        let fits = accepted_length len (ap (λ (b : Bool). cond {A = Result (Unit {0}) Refusal} b (Ok tt) (Err BadLength)) (sym s)) in
-        (fits.0, fits.1, accepted_behind v.waiting g)
-    by false s g = let z : ◌≡◌ {A = ℕ} 0 1 = cc in absurd (omega arith)
+    by : (a b : Bool) → length_ok len ≡ a → ltb v.waiting 8 ≡ b → ◌≡◌ {A = Result (Unit {0}) Refusal} (Ok tt) (cond a (cond b (Ok tt) (Err Full)) (Err BadLength)) → (0 < len) × (len ≤ 16) × (v.waiting < 8)
+    by true true s t g =
+        let p = and_parts (ltb 0 len) (leb len 16) s in
+        (ltb-true 0 len p.0, leb-true len 16 p.1, ltb-true v.waiting 8 t)
+    by true false s t g = let z : ◌≡◌ {A = ℕ} 0 1 = cc in absurd (omega arith)
+    by false b s t g = let z : ◌≡◌ {A = ℕ} 0 1 = cc in absurd (omega arith)
 
 pub grants : (m : Meaning) (c len : ℕ) → c < m.count → 0 < len → len ≤ 16 → length (m.client c).waiting < 8 → granted m c len ≡ true
 grants m c len known some few room =

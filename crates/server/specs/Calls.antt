@@ -61,13 +61,6 @@ entered t label len x = record {
 abbrev pub length_ok : ℕ → Bool
 length_ok len = nat_lt 0 len && nat_le len 16
 
--- whether a block may have this length, and whether one more may wait behind so many
-abbrev pub accepting_length : ℕ → Result (Unit {0}) Refusal
-accepting_length len = cond (length_ok len) (Ok tt) (Err BadLength)
-
-abbrev pub accepting_behind : ℕ → Result (Unit {0}) Refusal
-accepting_behind waiting = cond (nat_lt waiting 8) (Ok tt) (Err Full)
-
 -- whether a block of this length may come in for a client of this view, or the first cause against it
 abbrev pub accepting : View → ℕ → Result (Unit {0}) Refusal
 accepting v len = cond (length_ok len) (cond (nat_lt v.waiting 8) (Ok tt) (Err Full)) (Err BadLength)

@@ -1,5 +1,5 @@
 ghost use Rattle.std.specs.Prelude.{◌≡◌};
-ghost use Rattle.server.specs.Calls.{accepting, accepting_length, accepting_behind};
+ghost use Rattle.server.specs.Calls.{accepting};
 
 use crate::rate::Terms;
 use crate::refusal::Refusal;
@@ -12,32 +12,17 @@ pub struct View {
     pub waiting: u8,
 }
 
-/// Whether a block may have this length.
-pub fn accept_length(length: u8) -> Result<(), Refusal>
-    ensures { result ≡ accepting_length length }
-{
-    if !(1..=16).contains(&length) {
-        return Err(Refusal::BadLength);
-    }
-    Ok(())
-}
-
-/// Whether one more block may wait behind so many.
-pub fn accept_behind(waiting: u8) -> Result<(), Refusal>
-    ensures { result ≡ accepting_behind waiting }
-{
-    if waiting >= 8 {
-        return Err(Refusal::Full);
-    }
-    Ok(())
-}
-
 impl View {
     /// Whether a block of this length may come in, or the first cause against it.
     pub fn accept(self, length: u8) -> Result<(), Refusal>
         ensures { result ≡ accepting self length }
     {
-        accept_length(length)?;
-        accept_behind(self.waiting)
+        if !(1..=16).contains(&length) {
+            return Err(Refusal::BadLength);
+        }
+        if self.waiting >= 8 {
+            return Err(Refusal::Full);
+        }
+        Ok(())
     }
 }

@@ -1,6 +1,7 @@
 use Rattle.std.proofs.Common.{◌<◌, length, arith}
 use Rattle.server.specs.Meaning.{Meaning}
-use Rattle.server.proofs.Grants.{accepted_length, accepted_behind, asked_ok}
+use Rattle.server.specs.Calls.{view_of}
+use Rattle.server.proofs.Grants.{accepted, asked_ok}
 use Rattle.join.specs.Starts.{starts_in}
 use Rattle.join.specs.Link.{chained}
 use Rattle.join.specs.Joint.{state_of}
@@ -20,18 +21,14 @@ returns g c =
     let ss = starts_in x.starts in
     let J : Meaning = chained x.clients x.now ss m n in
     let k = c.args.client in
-    let told = asked_ok J k c.in_ok-rate.rate (λ y. y.terms.rate) c.in_ok-rate.ensures in
-    let fits = accepted_length c.args.length c.in_ok-accept_length.ensures in
-    let few = accepted_behind c.in_ok-waiting.field-0 c.in_ok-accept_behind.ensures in
-    let room : length (J.client k).waiting < 8 = omega (arith, few, (asked_ok J k c.in_ok-waiting.field-0 (λ y. length y.waiting) c.in_ok-waiting.ensures).1) in
+    let told = asked_ok J k c.in_ok-view.view view_of c.in_ok-view.ensures in
+    let w = c.in_ok-waiting.waiting in
+    let fits = accepted (record { terms = c.default-2.result.terms; clock = c.default-2.result.clock; waiting = w }) c.args.length c.in_ok-accept-2.ensures in
+    let room : length (J.client k).waiting < 8 = omega (arith, fits.2, (asked_ok J k w (λ y. length y.waiting) c.in_ok-waiting.ensures).1) in
     record {
       answers = submit_says x.clients x.now ss m n x.stands k told.0 c.args.label c.args.length fits.0 fits.1 room
           (chain_lawful x.clients x.now ss m n x.stands (g.met.A.Server.lawful x.first) (g.met.B.Server.lawful x.second))
-          c.in_ok-rate.rate c.in_ok-latency.latency c.in_ok-clock.clock c.start_at.result c.due.result
-          told.1
-          (asked_ok J k c.in_ok-latency.latency (λ y. y.terms.latency) c.in_ok-latency.ensures).1
-          (asked_ok J k c.in_ok-clock.clock (λ y. y.clock) c.in_ok-clock.ensures).1
-          c.start_at.ensures c.due.ensures;
+          c.in_ok-view.view c.start_at-start.result c.due.result told.1 c.start_at-start.ensures c.due.ensures;
       leaves = submit_leaves x.clients x.now ss m n x.stands k told.0 c.args.label c.args.length fits.0 fits.1 room (a.means (a.state m')) c.submit.ensures.leaves;
       exactly = λ e. exact_enter a.means b.means a.machine b.machine (state_of a b x) (a.state m') k c.args.label c.args.length
           (chain_grants x.clients x.now ss m n x.stands k told.0 c.args.label c.args.length fits.0 fits.1 room) (c.submit.ensures.exactly e.0);
@@ -47,8 +44,8 @@ invariant_of-self g c =
     let ss = starts_in x.starts in
     let J : Meaning = chained x.clients x.now ss m n in
     let k = c.args.client in
-    let told = asked_ok J k c.in_ok-rate.rate (λ y. y.terms.rate) c.in_ok-rate.ensures in
-    let fits = accepted_length c.args.length c.in_ok-accept_length.ensures in
-    let few = accepted_behind c.in_ok-waiting.field-0 c.in_ok-accept_behind.ensures in
-    let room : length (J.client k).waiting < 8 = omega (arith, few, (asked_ok J k c.in_ok-waiting.field-0 (λ y. length y.waiting) c.in_ok-waiting.ensures).1) in
+    let told = asked_ok J k c.in_ok-view.view view_of c.in_ok-view.ensures in
+    let w = c.in_ok-waiting.waiting in
+    let fits = accepted (record { terms = c.default-2.result.terms; clock = c.default-2.result.clock; waiting = w }) c.args.length c.in_ok-accept-2.ensures in
+    let room : length (J.client k).waiting < 8 = omega (arith, fits.2, (asked_ok J k w (λ y. length y.waiting) c.in_ok-waiting.ensures).1) in
     record { stands = submit_stands x.clients x.now ss m n x.stands k told.0 c.args.label c.args.length fits.0 fits.1 room (a.means (a.state c.submit.new.self)) c.submit.ensures.leaves }
