@@ -12,7 +12,8 @@ mod text;
 pub use tables::Full;
 pub use text::Text;
 
-/// The number of a first digit with the rest, in one pass: ten digits are no more than 64 bits hold.
+/// The number of a first digit with the rest. It is read in one pass, where `parse` makes the third: the text would
+/// have to be known as digits and as a string before.
 fn digits(first: u8, rest: &[u8]) -> Option<u64>
     requires { length rest.now ≤ 9 }
     ensures { result ≡ digits_on 0 (first ∷ rest.now) }

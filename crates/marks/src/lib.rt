@@ -34,6 +34,7 @@ pub fn count(bytes: &[u8], mark: u8) -> usize
     ensures value { result ≡ marks_in mark bytes.now }
     ensures bound { result ≤ length bytes.now }
 {
+    // A loop, since a filter that is counted takes nearly half as many instructions again.
     let mut marks = 0;
     for byte in bytes {
         if *byte == mark {
