@@ -77,7 +77,11 @@ impl<A: Server, B: Server> Server for Chain<A, B> {
         }
         View::default().accept(length)?;
         let waiting = self.waiting(client)?;
-        View { waiting, ..View::default() }.accept(length)?;
+        View {
+            waiting,
+            ..View::default()
+        }
+        .accept(length)?;
         let view = self.view(client)?;
         // Granted, since no more wait in the first than in both.
         let _ = self.first.submit(client, label, length);

@@ -66,9 +66,7 @@ impl Reading {
         if request.slot < self.slot {
             return Err(LineFault::Slot);
         }
-        self.requests
-            .push(request)
-            .map_err(|_| LineFault::Crowd)?;
+        self.requests.push(request).map_err(|_| LineFault::Crowd)?;
         self.place = Place::Requests;
         self.slot = request.slot;
         Ok(())

@@ -15,7 +15,7 @@ loop-digit-preserved c =
     let small = digit_small (get_or c.args.rest.now c.loop-digit.digit-index 0) y in (
       grows c.loop-digit.value c.from.result c.loop-digit.digit-index c.loop-digit.invariant.0 (omega (arith, small, c.from.ensures)),
       ap (λ d. digits_on (10 * c.loop-digit.value + d) (drop (c.loop-digit.digit-index + 1) c.args.rest.now)) c.from.ensures
-      ∙ sym (digits_go c.loop-digit.value c.args.rest.now c.loop-digit.digit-index c.loop-digit-test.true y) ∙ c.loop-digit.invariant.1,
+          ∙ sym (digits_go c.loop-digit.value c.args.rest.now c.loop-digit.digit-index c.loop-digit-test.true y) ∙ c.loop-digit.invariant.1,
     )
 
 pub returns : goal.returns
