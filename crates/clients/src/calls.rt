@@ -98,8 +98,9 @@ impl Clients {
         ensures answers { result ≡ slot_says (meaning self.old) who }
         ensures leaves { meaning self.new ≡ slot_leaves (meaning self.old) who }
     {
+        let next = self.slots.checked_add(1).ok_or(Refusal::Ended)?;
         let served = self.served_by(who);
-        self.slots = self.slots.checked_add(1).ok_or(Refusal::Ended)?;
+        self.slots = next;
         match served {
             Some(client) => {
                 let lanes = &mut self.lanes.items[..];

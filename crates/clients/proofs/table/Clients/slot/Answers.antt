@@ -13,7 +13,7 @@ invariant_of-self c =
     let i = c.from.result in
     let d = c.index-lanes-from.result in
     let early : x.slots < 4294967295 = search rules in
-    let next : c.in_ok-self.field-0 ≡ x.slots + 1 = search rules in
+    let next : c.in_ok-next.next ≡ x.slots + 1 = search rules in
     let w = with_item x.lanes i c.serve.new.self in
     let says = c.serve.ensures.answers ∙ ap (λ (k : ℕ). gone k (client_of (get_or x.lanes.items i d)).waiting) (sym c.from.ensures) in
     let e = slot_is x.slots c.args.who early x.lanes i d c.serve.new.self c.serve.result (ap Some c.from.ensures ∙ c.in-Some.ensures) says c.serve.ensures.leaves in
@@ -24,7 +24,7 @@ pub invariant_of-self-in-None : goal.invariant_of-self-in-None
 invariant_of-self-in-None c =
     let x = c.args.self.now in
     let early : x.slots < 4294967295 = search rules in
-    let next : c.in_ok-self.field-0 ≡ x.slots + 1 = search rules in
+    let next : c.in_ok-next.next ≡ x.slots + 1 = search rules in
     let e = ap (λ (t : ℕ). viewed t x.lanes) next ∙ slot_idle x.slots c.args.who early x.lanes c.in-None.ensures in
     record { kept = ∥∥₁_map x.kept (λ g. subst Kept (sym e) (kept_slot (viewed x.slots x.lanes) c.args.who g)) }
 
@@ -34,7 +34,7 @@ returns-in-Some c =
     let i = c.from.result in
     let d = c.index-lanes-from.result in
     let early : x.slots < 4294967295 = search rules in
-    let next : c.in_ok-self.field-0 ≡ x.slots + 1 = search rules in
+    let next : c.in_ok-next.next ≡ x.slots + 1 = search rules in
     let w = with_item x.lanes i c.serve.new.self in
     let says = c.serve.ensures.answers ∙ ap (λ (k : ℕ). gone k (client_of (get_or x.lanes.items i d)).waiting) (sym c.from.ensures) in
     let e = slot_is x.slots c.args.who early x.lanes i d c.serve.new.self c.serve.result (ap Some c.from.ensures ∙ c.in-Some.ensures) says c.serve.ensures.leaves in

@@ -34,9 +34,10 @@ returns c =
     let i = c.from.result in
     let told = c.in_ok-view.ensures ∙ ap (λ (k : ℕ). asked m k view_of) (sym c.from.ensures) in
     let g = let_in x.slots x.lanes i c.args.units c.in_ok-view.field-0 told c.in_ok-accept.ensures in
+    let due = submit_says x.slots x.lanes i c.index-lanes-from.result g.0 c.args.units g.1 g.2 g.3 x.kept c.enter.result c.enter.ensures.answers
+    ∙ ap (λ (k : ℕ). granting m k c.args.units) c.from.ensures in
     record {
-      answers = submit_says x.slots x.lanes i c.index-lanes-from.result g.0 c.args.units g.1 g.2 g.3 x.kept c.enter.result c.enter.ensures.answers
-          ∙ ap (λ (k : ℕ). granting m k c.args.units) c.from.ensures;
+      answers = grind (arith, due);
       leaves = submit_leaves x.slots x.lanes i c.index-lanes-from.result g.0 c.args.units g.1 g.2 g.3 c.args.label c.enter.new.self c.enter.ensures.leaves
           ∙ ap (λ (k : ℕ). submitted m k c.args.label c.args.units) c.from.ensures;
     }
