@@ -46,8 +46,9 @@ fn submit<S: Server>(server: &mut S, row: &Submission) -> Result<(), Mismatch>
     Ok(())
 }
 
-/// Hands a server the blocks of a table that come in its present slot. After a mismatch the blocks that were granted
-/// up to there are entered, that row's too if it was granted.
+/// Hands a server the blocks of a table that come in its present slot. `Ok` tells that each was answered as its row says,
+/// and entered if it was granted. This is proved of a server whose calls are known wholly (`named`); of another, and of
+/// what a mismatch leaves, nothing is.
 pub fn submit_all<S: Server>(server: &mut S, submissions: &[Submission]) -> Result<(), Mismatch>
     ensures { OnOk result (S.Server.named → SubmitsAll S.Server.means S.Server.machine submissions.now (S.Server.state server.old) (S.Server.state server.new)) }
 {
@@ -79,8 +80,8 @@ fn serve_slot<S: Server>(server: &mut S, expected: u8) -> Result<(), Mismatch>
     Ok(())
 }
 
-/// Serves a slot for each letter of a run, with the submissions of a table before each slot. After a
-/// mismatch the server is where it was found out.
+/// Serves a slot for each letter of a run, with the submissions of a table before each slot. `Ok` tells that the server
+/// did as table and run say, which is proved of the same servers as of `submit_all`.
 pub fn play<S: Server>(
     server: &mut S,
     submissions: &[Submission],
@@ -95,7 +96,7 @@ pub fn play<S: Server>(
     Ok(())
 }
 
-/// Serves a slot for each letter of a run.
+/// Serves a slot for each letter of a run. `Ok` tells what it tells of `play`, with no submissions.
 pub fn serve<S: Server>(server: &mut S, run: &[u8]) -> Result<(), Mismatch>
     ensures { OnOk result (S.Server.named → Plays S.Server.means S.Server.machine [] run.now (S.Server.state server.old) (S.Server.state server.new)) }
 {
