@@ -8,8 +8,8 @@ use crate::shares::{Role, Share};
 use clients::table::Clients;
 use tables::Table;
 
-// Each client earns its step in a slot that serves the client `who`, which pays for it. The shares come without
-// their server, whose type says more of them and the clients than holds between this and the clients' slot.
+// Each client earns its step in a slot that serves the client `who`, which pays for it. The shares come apart
+// from their server: what its type says of shares and clients together fails between this and the clients' slot.
 pub(crate) fn earn(
     shares: &mut Table<Share, 8>,
     clients: &Clients,
