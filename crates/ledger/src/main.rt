@@ -10,10 +10,10 @@ mod script;
 mod showing;
 mod sources;
 mod station;
+mod stop;
 mod words;
 
 use answers::tell;
-use anyhow::Result;
 use book::calls::Event;
 use book::driving::join_and_drive;
 use join::chain::Chain;
@@ -22,11 +22,15 @@ use script::calls;
 use server::refusal::Refusal;
 use showing::{show, tell_fit, tell_hop};
 use station::{credit_hop, frame_hop, ring_hop};
+use stop::Stop;
 
-// Stands in the room for an event until its call is made, since what makes the calls writes into its caller's room.
+// Room for the events of the calls. An event stands in it until its call is made, since what makes the calls writes
+// into its caller's room.
+const ROOM: usize = 64;
+
 const NO_EVENT: Event = Event::Slot(Err(Refusal::Ended));
 
-fn main(rt: HostRuntime) -> Result<()> {
+fn main(rt: HostRuntime) -> Result<(), Stop> {
     rt.println(
         "The hops and their latencies, in ticks (1/p slot for a source that sends p units in q slots)",
     )?;
@@ -40,14 +44,14 @@ fn main(rt: HostRuntime) -> Result<()> {
     let chain = Chain::join(frame, credits);
     tell_fit(&rt, "that chain and ring", &chain, &ring)?;
     let calls = calls(rt.alloc())?;
-    let mut events = vec![in rt.alloc(); NO_EVENT; calls.len()]?;
-    let whole = join_and_drive(chain, ring, calls.as_slice(), events.as_mut_slice());
+    let mut events = [NO_EVENT; ROOM];
+    let whole = join_and_drive(chain, ring, calls.as_slice(), &mut events);
     tell_hop(&rt, "the whole", &whole)?;
     let mut ledger = Ledger::open(rt.alloc(), &whole)?;
     rt.println("\nThe submissions that were refused, and the questions")?;
-    for event in events {
-        tell(&rt, ledger.now(), event)?;
-        ledger.feed(event)?;
+    for event in events.iter().take(calls.len()) {
+        tell(&rt, ledger.now(), *event)?;
+        ledger.feed(*event)?;
     }
     show(&rt, &ledger)?;
     Ok(())

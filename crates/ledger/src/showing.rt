@@ -1,18 +1,19 @@
 use crate::keeping::{Entry, Ledger};
 use crate::sources::Source;
+use crate::stop::Stop;
 use crate::words::Words;
-use anyhow::{Result, anyhow};
 use join::fitting::fit;
 use server::server::Server;
 use std::{fmt, io};
 
 // The latencies of a server's two sources; a server that lacks one of them is an error.
-pub fn tell_hop<S: Server>(rt: &impl Print, hop: &str, server: &S) -> Result<()> {
-    let latency_of = |source: Source| {
-        server.latency(source.into()).map_err(|refusal| anyhow!(
-            "{hop} has no latency of {source}: {}",
-            Words(refusal)
-        ))
+pub fn tell_hop<S: Server>(
+    rt: &impl Print,
+    hop: &'static str,
+    server: &S,
+) -> Result<(), Stop> {
+    let latency_of = |who: Source| {
+        server.latency(who.into()).map_err(|refusal| Stop::NoLatency { hop, who, refusal })
     };
     let telemetry = latency_of(Source::Telemetry)?;
     let science = latency_of(Source::Science)?;
