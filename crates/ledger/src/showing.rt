@@ -7,13 +7,11 @@ use server::server::Server;
 use std::{fmt, io};
 
 // The latencies of a server's two sources; a server that lacks one of them is an error.
-pub fn tell_hop<S: Server>(
-    rt: &impl Print,
-    hop: &'static str,
-    server: &S,
-) -> Result<(), Stop> {
+pub fn tell_hop<S: Server>(rt: &impl Print, hop: &'static str, server: &S) -> Result<(), Stop> {
     let latency_of = |who: Source| {
-        server.latency(who.into()).map_err(|refusal| Stop::NoLatency { hop, who, refusal })
+        server
+            .latency(who.into())
+            .map_err(|refusal| Stop::NoLatency { hop, who, refusal })
     };
     let telemetry = latency_of(Source::Telemetry)?;
     let science = latency_of(Source::Science)?;
