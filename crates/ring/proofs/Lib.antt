@@ -1,4 +1,3 @@
 pub mod Rounds
 pub mod Slots
-pub mod Circle
 pub mod Reservations

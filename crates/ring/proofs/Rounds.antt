@@ -27,7 +27,7 @@ ahead_is K t j = by_test (ltb t j)
     (λ b. ((t < j) × (cond b (j - t - 1) (j + K - t - 1) ≡ j - t - 1)) ⊎ ((j ≤ t) × (cond b (j - t - 1) (j + K - t - 1) ≡ j + K - t - 1)))
     (λ e. inl (ltb-true t j e, refl)) (λ e. inr (ltb-false t j e, refl))
 
-pub next_is : (K t : ℕ) → ((t + 1 < K) × (next_of K t ≡ t + 1)) ⊎ ((K ≤ t + 1) × (next_of K t ≡ 0))
+next_is : (K t : ℕ) → ((t + 1 < K) × (next_of K t ≡ t + 1)) ⊎ ((K ≤ t + 1) × (next_of K t ≡ 0))
 next_is K t = by_test (ltb (t + 1) K)
     (λ b. ((t + 1 < K) × (cond b (t + 1) 0 ≡ t + 1)) ⊎ ((K ≤ t + 1) × (cond b (t + 1) 0 ≡ 0)))
     (λ e. inl (ltb-true (t + 1) K e, refl)) (λ e. inr (ltb-false (t + 1) K e, refl))

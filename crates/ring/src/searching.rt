@@ -7,17 +7,34 @@ use crate::ring_server::RingServer;
 use crate::turns::{Place, Rest, Ring, Turn};
 use server::block::{Block, Served};
 
+// The client after this one, round the ring.
+fn after(count: u8, client: u8) -> u8
+    requires { client < 8 }
+    ensures { result ≡ next_of count client }
+{
+    if client + 1 < count { client + 1 } else { 0 }
+}
+
 impl RingServer {
-    // The first client that has a block, round the ring from the one after `last`.
+    // The first client that has a block, round the ring from the one after `last`. Each is asked once. The two ranges
+    // behind one another, with `find`, take a third more instructions where nothing waits.
     pub(crate) fn first_waiting(&self, last: u8) -> Option<u8>
         requires { last < 8 }
         ensures { let m = meaning self.now.clients in result ≡ seek m.count (waits m) m.count (next_of m.count last) }
     {
         let count = self.clients.count();
-        // The clients behind it, and then those up to it, so that each is asked once.
-        (last + 1..count)
-            .chain(0..count.min(last + 1))
-            .find(|client| self.clients.waits(*client))
+        let mut client = after(count, last);
+        let mut left = count;
+        loop {
+            if left == 0 {
+                break None;
+            }
+            if self.clients.waits(client) {
+                break Some(client);
+            }
+            client = after(count, client);
+            left -= 1;
+        }
     }
 }
 

@@ -1,25 +1,27 @@
-use Rattle.std.proofs.Common.{ℕ, ◌+◌, ◌-◌, refl, sym, ap, ◌∙◌, arith, rules, tests}
-use Rattle.std.proofs.lemmas.Iterator.Adapters.{option_map_id}
-use Rattle.std.proofs.lemmas.Iterator.{YieldsList-from_range}
-use Rattle.std.proofs.lemmas.Iterator.Consumers.{YieldsList-from_chain}
-use Rattle.std.proofs.lemmas.Iterator.Search.{find_from_yields_List}
+use Rattle.std.proofs.Common.{ℕ, ◌≤◌, ◌-◌, sym, ap, ◌∙◌, arith}
+use mathlib.Core.Logic.{∥∥₁_elim}
+use native.Mathlib.Bridge.{le_prop}
 use Rattle.clients.specs.Meant.{meaning}
 use Rattle.clients.specs.Serving.{waits}
 use Rattle.ring.specs.Turns.{next_of, seek}
-use Rattle.ring.proofs.Circle.{found_round}
+use Rattle.ring.proofs.Rounds.{next_small, seek_passes, seek_stops}
 use Rattle.ring.proofs.ring_server.RingServer.first_waiting.Goals as goal
 
-pub returns : goal.returns
-returns c =
+pub loop-left-preserved : goal.loop-left-preserved
+loop-left-preserved c =
+    let m = meaning c.args.self.now.clients in
+    let has = waits m in
+    let few : m.count ≤ 8 = ∥∥₁_elim c.args.self.now.clients.kept le_prop (λ k. k.eight) in
+    let count = c.count-count.result in (
+      omega (arith, c.after-client-in-loop-left.ensures, next_small count c.loop-left.client (omega (arith, c.count-count.ensures, few))),
+      ap (seek count has (c.loop-left.left - 1)) c.after-client-in-loop-left.ensures
+          ∙ sym (seek_passes count has c.loop-left.left c.loop-left.client (omega arith) (sym c.if-waits.ensures))
+          ∙ c.loop-left.invariant.1,
+    )
+
+pub returns-then-waits : goal.returns-then-waits
+returns-then-waits c =
     let has = waits (meaning c.args.self.now.clients) in
-    let count = c.count-count.result in
-    let t = c.args.last in
-    sym (option_map_id c.find.result)
-    ∙ find_from_yields_List has _ _ c.find.result c.find.ensures.ran
-    (YieldsList-from_chain
-    (YieldsList-from_range (t + 1) count (count - (t + 1)) (cc) refl)
-    (YieldsList-from_range 0 c.min.result c.min.result (cc) (omega arith))
-    c.chain.ensures.first_done c.chain.ensures.second_done)
-    (λ x b q k. search (rules, tests))
-    ∙ found_round count has t c.min.result c.min.ensures
-    ∙ ap (λ (n : ℕ). seek n has n (next_of n t)) c.count-count.ensures
+    sym (seek_stops c.count-count.result has c.loop-left.left c.loop-left.client (omega arith) (sym c.if-waits.ensures))
+    ∙ c.loop-left.invariant.1
+    ∙ ap (λ (n : ℕ). seek n has n (next_of n c.args.last)) c.count-count.ensures
