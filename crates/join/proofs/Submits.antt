@@ -72,13 +72,13 @@ module _ (count t : ℕ) (ss : ℕ → List ℕ) (m n : Meaning) (S : Stands cou
               (λ ne. S.links k h);
         })
 
-    pub submit_says : Lawful J → (v : View) (start due : ℕ) → v ≡ view_of x → start ≡ max (v.terms.rate.p * t) v.clock
-        → due ≡ min (start + v.terms.latency) 18446744073709551615 / v.terms.rate.p → ◌≡◌ {A = DueAnswer} (Ok due) (granting J c len)
-    submit_says l v start due ev es ed =
+    pub submit_says : Lawful J → (p late clock start due : ℕ) → start ≡ max (p * t) clock → due ≡ min (start + late) 18446744073709551615 / p
+        → p ≡ x.terms.rate.p → late ≡ x.terms.latency → clock ≡ x.clock → ◌≡◌ {A = DueAnswer} (Ok due) (granting J c len)
+    submit_says l p late clock start due es ed ep el ec =
         let h = l.each c known in
-        let s : start ≡ start_at t x = es ∙ ap (λ (u : View). max (u.terms.rate.p * t) u.clock) ev in
+        let s : start ≡ start_at t x = es ∙ ap (λ (u : ℕ). max (u * t) clock) ep ∙ ap (λ (k : ℕ). max (x.terms.rate.p * t) k) ec in
         let far : x.terms.rate.p * t ≤ 1024 * 4294967296 = mul-le-mul {n₂ = 1024} {m₂ = 4294967296} (omega (arith, h.ranged.rate, h.ranged.small)) (omega (arith, S.counted)) in
-        let fits : min (start + x.terms.latency) 18446744073709551615 ≡ start + x.terms.latency = min-eq_left (omega (arith, s, far, h.ranged.most, clock_small t x S.counted h)) in
-        let d : due ≡ due_of x (start_at t x) = ed ∙ ap (λ (u : View). min (start + u.terms.latency) 18446744073709551615 / u.terms.rate.p) ev ∙ ap (λ (k : ℕ). k / x.terms.rate.p) fits ∙ ap (λ (k : ℕ). (k + x.terms.latency) / x.terms.rate.p) s in
+        let fits : min (start + late) 18446744073709551615 ≡ start + late = min-eq_left (omega (arith, s, far, el, h.ranged.most, clock_small t x S.counted h)) in
+        let d : due ≡ due_of x (start_at t x) = ed ∙ ap (λ (k : ℕ). k / p) fits ∙ ap (λ (u : ℕ). (start + late) / u) ep ∙ ap (λ (k : ℕ). (k + late) / x.terms.rate.p) s ∙ ap (λ (k : ℕ). (start_at t x + k) / x.terms.rate.p) el in
         let ok : ℕ → DueAnswer = λ k. Ok k in
         ap ok d ∙ sym (granting_is J c len chain_grants)

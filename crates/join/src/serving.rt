@@ -68,25 +68,22 @@ impl<A: Server, B: Server> Server for Chain<A, B> {
         self.first.clock(client)
     }
 
-    // A submission goes to the first; its due is by both latencies. What may refuse it is looked at cause by cause, so
-    // that a refusal asks no server for more than it must: the length first, as where nothing waits, then how many
-    // wait.
+    // A submission goes to the first; its due is by both latencies. It is looked at cause by cause, so that a refusal
+    // asks no server for more than it must: for nothing where the length is refused, for what waits where it is that.
     fn submit(&mut self, client: u8, label: u32, length: u8) -> Result<u64, Refusal> {
         if client >= self.clients {
             return Err(Refusal::NoClient);
         }
-        View::default().accept(length)?;
-        let waiting = self.waiting(client)?;
-        View {
-            waiting,
-            ..View::default()
-        }
-        .accept(length)?;
+        let mut known = View::default();
+        known.accept(length)?;
+        known.waiting = self.waiting(client)?;
+        known.accept(length)?;
         let view = self.view(client)?;
+        let start = view.terms.rate.start_at(view.clock, self.now);
+        let due = view.terms.due(start);
         // Granted, since no more wait in the first than in both.
         let _ = self.first.submit(client, label, length);
-        let start = view.terms.rate.start_at(view.clock, self.now);
-        Ok(view.terms.due(start))
+        Ok(due)
     }
 
     // The second serves, then the first, then what departed from the first goes to the second.
