@@ -178,6 +178,30 @@ mod tests {
         Ok(())
     }
 
+    // A chain as part of a struct: one parameter stands for all hops before the last. `Chain<Chain<A, B>, C>` as the
+    // type of a field of a struct of three parameters is refused by the check today.
+    #[derive(Drop)]
+    struct Station<S: Server, C: Server> {
+        chain: Chain<S, C>,
+    }
+
+    fn station_of<A: Server, B: Server, C: Server>(
+        first: A,
+        second: B,
+        third: C,
+    ) -> Station<Chain<A, B>, C> {
+        Station {
+            chain: Chain::join(Chain::join(first, second), third),
+        }
+    }
+
+    #[test]
+    fn chain_in_a_struct(rt: HostRuntime) -> Result<(), Fail> {
+        let station = station_of(framed()?, credited()?, ringed()?);
+        assert_eq!(rt; latencies_of(&station.chain)?, [303, 305]);
+        Ok(())
+    }
+
     #[test]
     fn different_clients_fit_not(rt: HostRuntime) -> Result<(), Fail> {
         let first = framed()?;

@@ -1,13 +1,12 @@
 -- The lanes of the table as clients: what a write to one lane, or one lane more, makes of the meaning.
-use Rattle.std.proofs.Common.{◌≡◌, ℕ, zero, suc, ◌+◌, ◌*◌, ◌/◌, ◌^◌, ◌<◌, ◌≤◌, min, Bool, true, false, cond, ◌&&◌, ltb, ◌≢◌, List, [], ◌∷◌, ◌++◌, map, length, get_or, set, Some, None, Ok, Err, Option, Result, sym, refl, ap, ◌∙◌, subst, mul-le-mul, arith, length-set, length-append, length-take-le, get_or-take, lt-ltb, le-leb, ltb-true, ltb-false}
-use borrow.Author.Tests.{lt-leb}
+use Rattle.std.proofs.Common.{◌≡◌, ℕ, zero, suc, ◌+◌, ◌*◌, ◌/◌, ◌^◌, ◌<◌, ◌≤◌, min, Bool, true, cond, ◌&&◌, ◌≢◌, List, [], ◌∷◌, ◌++◌, map, length, get_or, set, Some, None, Ok, Err, Option, Result, sym, refl, ap, ◌∙◌, subst, mul-le-mul, arith, length-set, length-append, length-take-le, get_or-take, lt-ltb}
 use mathlib.Core.Logic.{∥∥₁_elim, ∥∥₁_map}
 use native.Mathlib.Bridge.{le_prop}
 use native.Mathlib.Nat.{min-eq_left}
 use lib.ListN.{length-map}
 use lib.Seq.{map-set}
 use Rattle.std.proofs.Math.Seq.{take-set-lt}
-use Rattle.std.proofs.lemmas.List.{get_or-map, get_or-set_same, get_or-set_other}
+use Rattle.std.proofs.lemmas.List.{get_or-map, take_more_set, get_or-set_same, get_or-set_other}
 use Rattle.server.specs.declared.block.Served.{Served}
 use Rattle.server.specs.declared.rate.Terms.{Terms}
 use Rattle.server.specs.Meaning.{Client, Meaning}
@@ -18,7 +17,7 @@ use Rattle.server.specs.Calls.{DueAnswer, SlotAnswer, asked, view_of, accepting,
 use Rattle.server.proofs.Meanings.{at_is}
 use Rattle.server.proofs.Grants.{asked_ok, accepted, grants, granting_is}
 use Rattle.tables.specs.declared.table.Table.{Table}
-use Rattle.tables.specs.Tables.{listed, fits, extended}
+use Rattle.tables.specs.Tables.{listed}
 use Rattle.clients.specs.declared.lane.Lane.{Lane}
 use Rattle.clients.specs.View.{vacant, new_client, client_of, client_in, viewed}
 use Rattle.clients.specs.Held.{Held, Kept}
@@ -54,23 +53,6 @@ module _ (t : ℕ) (x : Terms) (fit : true ≡ terms_ok x) where
             ∙ sym (ap (λ (b : Bool). cond {A = Meaning} b after (viewed t v)) g),
       )
 
-  -- the same, as the push leaves it: no lane more where there is no room
-  pub pushed_is : {N : ℕ} (v w : Table Lane N) (l : Lane) → client_of l ≡ new_client x → listed w ≡ extended 8 (listed v) (l ∷ []) → viewed t w ≡ admitted (viewed t v) x
-  pushed_is v w l e after = by (ltb (length (listed v)) 8) refl
-    where
-      left : (b : Bool) → fits 8 (listed v) (l ∷ []) ≡ b → listed w ≡ cond {A = List Lane} b (listed v ++ (l ∷ [])) (listed v)
-      left b h = after ∙ ap (λ (d : Bool). cond {A = List Lane} d (listed v ++ (l ∷ [])) (listed v)) h
-
-      by : (b : Bool) → ltb (length (listed v)) 8 ≡ b → viewed t w ≡ admitted (viewed t v) x
-      by true h =
-          let room = ltb-true (length (listed v)) 8 h in
-          (admit_is v w l room e (left true (le-leb (length (listed v) + 1) 8 (omega (arith, room))))).1
-      by false h =
-          let full : 8 ≤ length (listed v) = ltb-false (length (listed v)) 8 h in
-          let after : Meaning = record { count = length (listed v) + 1; now = t; client = at (length (listed v)) (λ _. new_client x) (client_in (listed v)) } in
-          ap (λ (xs : List Lane). record { count = length xs; now = t; client = client_in xs }) (left false (lt-leb (length (listed v) + 1) 8 (omega (arith, full))))
-          ∙ sym (ap (λ (b : Bool). cond {A = Meaning} (b && terms_ok x) after (viewed t v)) h)
-
 -- ## A write to one lane
 
 -- the table with lane c written
@@ -80,6 +62,16 @@ with_item v c l = record { items = set v.items c l; count = v.count; full = leng
 -- a table has as many lanes as it counts
 pub counted : {N : ℕ} (v : Table Lane N) → length (listed v) ≡ v.count
 counted v = length-take-le v.count v.items (omega (arith, v.full, v.few))
+
+-- the table with one lane more
+abbrev pub added : (v : Table Lane 8) → Lane → v.count < 8 → Table Lane 8
+added v l room = record { items = set v.items v.count l; count = v.count + 1; full = length-set v.items v.count l ∙ v.full; few = omega (arith, room) }
+
+-- where there is room, that lane is admitted
+pub added_is : (t : ℕ) (x : Terms) → true ≡ terms_ok x → (v : Table Lane 8) (l : Lane) (room : v.count < 8) → client_of l ≡ new_client x
+    → (true ≡ admits (viewed t v) x) × (viewed t (added v l room) ≡ admitted (viewed t v) x)
+added_is t x fit v l room e =
+    admit_is t x fit v (added v l room) l (omega (arith, room, counted v)) e (take_more_set v.items v.count l (omega (arith, room, v.full)))
 
 module _ {N : ℕ} (v : Table Lane N) (c : ℕ) (d : Lane) (known : c < v.count) where
   inside : c < length v.items

@@ -32,10 +32,13 @@ impl Clients {
         ensures answers { result ≡ admission (meaning self.old) terms }
         ensures leaves { meaning self.new ≡ admitted (meaning self.old) terms }
     {
-        if !in_range(terms) {
+        let lanes = &mut self.lanes;
+        if lanes.count >= 8 || !in_range(terms) {
             return Err(NotAdmitted);
         }
-        self.lanes.push(Lane::new(terms)).map_err(|_| NotAdmitted)
+        lanes.items[lanes.count] = Lane::new(terms);
+        lanes.count += 1;
+        Ok(())
     }
 
     pub fn count(&self) -> u8

@@ -125,6 +125,10 @@ module _ (m : Meaning) (r : Ring) (kept : ∥ Kept m ∥₁) (s : ∥ Sound m r 
   pub turn_eight : c < 8
   turn_eight = ∥∥₁_elim kept le_prop (λ k. omega (arith, k.eight, turn_low m r s c turn))
 
+  -- it has a place
+  pub turn_placed : length r.places ≡ 8 → c < length r.places
+  turn_placed full = omega (arith, full, turn_eight)
+
 -- ## The state after a slot
 
 -- the ring after a slot for this client, refused or not

@@ -1,10 +1,11 @@
 ghost use Rattle.std.specs.Prelude.{◌≡◌, ◌+◌, ◌-◌, ◌^◌, ◌<◌, ◌≤◌, length, if◌then◌else◌};
 ghost use Rattle.clients.specs.Meant.{meaning};
-ghost use Rattle.clients.specs.Serving.{waits};
-ghost use Rattle.ring.specs.Turns.{place_of, quantum_of, deficit_of, stands_open, next_of, seek, length_of, next_rest, rest_read, turn_to};
+ghost use Rattle.clients.specs.Serving.{front_at, waits};
+ghost use Rattle.ring.specs.Turns.{quantum_of, deficit_of, stands_open, next_of, seek, length_of, next_rest, rest_read, turn_to};
 
 use crate::ring_server::RingServer;
-use crate::turns::{Place, Rest, Ring, Turn};
+use crate::turns::{Rest, Ring, Turn};
+use clients::table::Clients;
 use server::block::{Block, Served};
 
 // The client after this one, round the ring.
@@ -46,23 +47,14 @@ pub(crate) fn length_of(block: Option<Block>) -> u8
 }
 
 impl Ring {
-    // The client's place; one of no units where it has none.
-    fn place(&self, client: u8) -> Place
-        ensures { result ≡ place_of self.now client }
-    {
-        self.places
-            .get(usize::from(client))
-            .copied()
-            .unwrap_or_default()
-    }
-
     // The client's deficit once its front block, of this many units, has begun.
     pub(crate) fn begun_with(&self, client: u8, units: u8) -> u32
+        requires placed { client < length self.now.places }
         requires small { deficit_of self.now client + quantum_of self.now client < 2 ^ 32 }
         requires enough { units ≤ deficit_of self.now client + quantum_of self.now client }
         ensures { result ≡ (if stands_open self.now.turn then deficit_of self.now client else deficit_of self.now client + quantum_of self.now client - units) }
     {
-        let place = self.place(client);
+        let place = self.places[usize::from(client)];
         match self.turn {
             Turn::Open(_) => place.deficit,
             Turn::Closed(_) => place.deficit + place.quantum - u32::from(units),
@@ -72,13 +64,10 @@ impl Ring {
     // The turn is the client's, with this left of it. The client is at hand where this is called, and would have to
     // be read out of the turn else.
     pub(crate) fn turn_to(&mut self, client: u8, rest: Rest)
+        requires { client < length self.old.places }
         ensures { self.new ≡ turn_to self.old client rest }
     {
-        let place = usize::from(client);
-        // `get_mut` of a slice says nothing of what the slice ends as.
-        if place < self.places.len() {
-            self.places[place].deficit = rest.deficit;
-        }
+        self.places[usize::from(client)].deficit = rest.deficit;
         self.turn = rest.turn;
     }
 }
@@ -105,12 +94,12 @@ fn rest_after(client: u8, deficit: u32, next: Option<Block>) -> Rest
     }
 }
 
-// What is left of the client's turn after a slot.
-pub(crate) fn rest_given(client: u8, deficit: u32, served: Served, next: Option<Block>) -> Rest
-    ensures { result ≡ rest_read client deficit served next }
+// What is left of the client's turn after a slot. The block that is front now is looked at only where one left.
+pub(crate) fn rest_given(clients: &Clients, client: u8, deficit: u32, served: Served) -> Rest
+    ensures { result ≡ rest_read client deficit served (front_at (meaning clients.now) client) }
 {
     match served {
-        Served::Departed(_) => rest_after(client, deficit, next),
+        Served::Departed(_) => rest_after(client, deficit, clients.front(client)),
         Served::Unit(_) => Rest::new(Turn::Open(client), deficit),
         Served::Nothing => Rest::new(Turn::Closed(client), deficit),
     }

@@ -71,7 +71,7 @@ impl Server for RingServer {
             .ring
             .begun_with(client, length_of(self.clients.front(client)));
         let served = self.clients.slot(Some(client))?;
-        let rest = rest_given(client, begun, served, self.clients.front(client));
+        let rest = rest_given(&self.clients, client, begun, served);
         self.ring.turn_to(client, rest);
         Ok(served)
     }
